@@ -9,13 +9,14 @@ ghost use Rattle.redl_lines.specs.Failures.{failure_status};
 ghost use Rattle.redl_lines.specs.Lines.{failure_line};
 ghost use Rattle.redl_app.specs.Answers.{Answers};
 ghost use Rattle.redl_app.specs.Formats.{program_brings};
-ghost use Rattle.redl_own.specs.Own.{own_of, own_lines, text_of};
+ghost use Rattle.redl_app.specs.Own.{own_of, own_lines, text_of};
 
 use crate::call::run_words;
+use crate::own::{Texts, own_of};
+use crate::tell::tell_text;
 use crate::top::refuse_words;
 use redl_io::{Shelf, Sink, Text};
 use redl_lines::Status;
-use redl_own::{Texts, own_of, tell_text};
 use redl_page::Skin;
 use redl_words::WordsError;
 use std::alloc::Global;

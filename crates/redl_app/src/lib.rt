@@ -11,12 +11,16 @@ mod answers;
 mod call;
 mod commands;
 mod formats;
+mod own;
 mod plan;
+mod tell;
 mod top;
 
 pub use answers::answer;
 pub use call::run_words;
+pub use own::{Own, Part, Texts, own_of};
 pub use redl_inputs::{JOURNALS_LIMIT, PACKAGE_LIMIT};
 pub use redl_lines::Status;
 pub use redl_words::WordsError;
+pub use tell::tell_text;
 pub use top::{refuse_words, run, run_surely};

@@ -7,9 +7,8 @@ use crate::live_session::session_over;
 use redl_editor::Editor;
 use redl_io::MemSink;
 use redl_live_session::LiveSession;
-use redl_outline::{document_package, nodes_text, outline_text};
+use redl_outline::{document_package, entries_of, nodes_text, outline_text};
 use redl_session::Locks;
-use redl_test_journals::entries_of;
 use std::alloc::{AllocError, Global};
 use std::test::Fail;
 

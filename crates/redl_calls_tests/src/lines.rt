@@ -4,8 +4,8 @@ use redl_io::{MemSink, Text};
 use redl_journal::Entry;
 use redl_kinds::{Lock, RevKind};
 use redl_lines::{Cause, End, Failure, Limit, Note, PackageFault, RefusedEntries, Remarks, tell};
+use redl_outline::entries_of;
 use redl_session::{AdmitError, Bar, Refusal};
-use redl_test_journals::entries_of;
 use std::alloc::{AllocError, Global};
 use std::test::Fail;
 

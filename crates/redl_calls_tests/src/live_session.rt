@@ -10,12 +10,11 @@ use redl_journal::Entry;
 use redl_kinds::Lock;
 use redl_live_session::{LiveSession, admit_each};
 use redl_opc::Package;
-use redl_outline::document_package;
+use redl_outline::{document_package, entries_of};
 use redl_output::write_nodes;
 use redl_rules::check;
 use redl_sample::{sample_journal, sample_package};
 use redl_session::{AdmitError, Bar, Locks, Refusal, Taken};
-use redl_test_journals::entries_of;
 use std::alloc::{AllocError, Global};
 use std::test::Fail;
 

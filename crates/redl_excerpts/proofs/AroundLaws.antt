@@ -11,7 +11,7 @@ use Rattle.redl_excerpts.specs.declared.excerpt.Excerpt.{Excerpt}
 use Rattle.redl_excerpts.specs.Excerpts.{TellsEach, is_moved, told_all}
 use Rattle.redl_excerpts.specs.Inside.Around.{IsAround, closed, first_of, opened}
 use Rattle.redl_excerpts.specs.Mentions.{Mention, Where, in_element, inside, member_told, stretch_in, told_by}
-use Rattle.redl_phrases.specs.Phrases.{Kept, heard}
+use Rattle.redl_excerpts.specs.Phrases.{Kept, heard}
 use Rattle.redl_excerpts.proofs.MemberLaws.{inside-element}
 use Rattle.redl_excerpts.proofs.TellLaws.{slice_get-here, slice_get-elsewhere, where_it_is}
 

@@ -10,7 +10,7 @@ use Rattle.redl_tree.proofs.Idle.Tags.{idle_parts, has-not}
 use Rattle.redl_tree.proofs.Model.Laws.{⊕-no_nodes}
 use Rattle.redl_excerpts.specs.Inside.Flat.{are_flat, is_flat}
 use Rattle.redl_excerpts.specs.Mentions.{Mention, Where, bytes_said, inside, mentions, past, told_by}
-use Rattle.redl_phrases.specs.Said.{element_said}
+use Rattle.redl_excerpts.specs.Said.{element_said}
 use Rattle.redl_excerpts.proofs.MentionLaws.{mentions-⊕}
 
 -- ---- many nodes, one after another

@@ -1,6 +1,12 @@
+pub mod PhraseLaws
+pub mod EvenLaws
+pub mod SaidLaws
+pub mod IdleLaws
+mod PhraseRows
 pub mod MentionLaws
 pub mod FlatLaws
 pub mod TellLaws
 pub mod MemberLaws
 pub mod AroundLaws
 mod Rows
+pub mod DetailLaws

@@ -11,9 +11,9 @@ use Rattle.redl_tree.specs.declared.kinds.Kind.{Kind}
 use Rattle.redl_tree.specs.declared.kinds.Kind.TheVariants.{Plain, Content, Mark, Row, Cell, Change, Marker}
 use Rattle.redl_tree.specs.declared.kinds.Trace.{Trace}
 use Rattle.redl_tree.specs.declared.kinds.Trace.TheVariants.{To}
-use Rattle.redl_phrases.specs.Said.{said, element_said, start_said, holds_text}
-use Rattle.redl_phrases.specs.Lines.{line_of, line_start, line_end, along, before, behind}
-use Rattle.redl_phrases.specs.declared.line.Place.{Place}
+use Rattle.redl_excerpts.specs.Said.{said, element_said, start_said, holds_text}
+use Rattle.redl_excerpts.specs.Lines.{line_of, line_start, line_end, along, before, behind}
+use Rattle.redl_excerpts.specs.declared.line.Place.{Place}
 
 -- what one member tells: its element's own id, its text, and what stands before and behind
 pub record Mention : Type 0 where

@@ -3,13 +3,13 @@
 ghost use Rattle.std.specs.Prelude.{◌≡◌, IfOk, OnOk, false};
 ghost use Rattle.redl_excerpts.specs.Inside.Around.{closed, first_of, opened};
 ghost use Rattle.redl_excerpts.specs.Mentions.{stretch_in};
-ghost use Rattle.redl_phrases.specs.Lines.{behind};
-ghost use Rattle.redl_phrases.specs.Said.{said};
+ghost use Rattle.redl_excerpts.specs.Lines.{behind};
+ghost use Rattle.redl_excerpts.specs.Said.{said};
 ghost use Rattle.redl_tree.specs.Model.View.{kids_of, tag_of};
 
 use crate::excerpt::Excerpt;
+use crate::{Place, behind, tell_nodes};
 use redl_io::Text;
-use redl_phrases::{Place, behind, tell_nodes};
 use redl_tree::Elem;
 use std::alloc::{AllocError, Global};
 use std::mem;

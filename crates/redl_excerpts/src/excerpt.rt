@@ -4,12 +4,12 @@ ghost use Rattle.std.specs.Prelude.{◌≡◌, IfOk, OnOk, true, false, if◌the
 ghost use Rattle.redl_tree.specs.Model.View.{nodes_of, tag_of};
 ghost use Rattle.redl_excerpts.specs.Excerpts.{is_trimmed, nothing_told, told};
 ghost use Rattle.redl_excerpts.specs.Mentions.{id_of, paragraph_end_in, stretch_in};
-ghost use Rattle.redl_phrases.specs.Lines.{along, before};
-ghost use Rattle.redl_phrases.specs.Said.{said};
+ghost use Rattle.redl_excerpts.specs.Lines.{along, before};
+ghost use Rattle.redl_excerpts.specs.Said.{said};
 
+use crate::{Ear, Phrase, Place, before, behind, tell_nodes};
 use redl_io::Text;
 use redl_kinds::RevKind;
-use redl_phrases::{Ear, Phrase, Place, before, behind, tell_nodes};
 use redl_stamp::attribute;
 use redl_tree::{Elem, Node};
 use std::alloc::{AllocError, Global};

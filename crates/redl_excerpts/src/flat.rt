@@ -5,7 +5,7 @@ ghost use Rattle.redl_tree.specs.Model.View.{nodes_of, item_of};
 ghost use Rattle.redl_excerpts.specs.Inside.Flat.{are_flat, is_flat};
 ghost use Rattle.redl_excerpts.specs.Mentions.{Where, mentions};
 
-use redl_phrases::is_paragraph;
+use crate::is_paragraph;
 use redl_tree::Node;
 
 /// The number of nodes up to the last one that may tell something.

@@ -1,15 +1,35 @@
-//! Excerpts: a numbered package goes in, and for each revision its words and what stands before and behind them come out.
+//! Excerpts: a numbered package goes in, and for each revision its words, what stands before and behind them, and who said what come
+//! out.
 //!
-//! Read `excerpts`. It walks the stories once, in time that grows with the package, and keeps of each revision at most 200
-//! characters of words, 40 before and 40 behind. A clause says that they are those of the definition.
+//! Read `excerpts` first. It walks the stories once, in time that grows with the package, and keeps of each revision at most 200
+//! characters of words, 40 before and 40 behind. `tell_nodes` is below it: nodes go in, and an `Ear` hears their text and keeps its
+//! beginning (`Phrase`), the whole line of a paragraph (`Line`) or a place in it (`Place`). `package_details` is above it: a detail
+//! has the texts of an excerpt in UTF-8 and the last words on the revision.
 //! How a listing shows them is left to the crates above.
 #![tactic(auto)]
 
 mod around;
+mod checked;
+mod detail;
+mod detailed;
+mod ear;
 mod excerpt;
 mod flat;
+mod idle;
+mod last_word;
+mod line;
 mod members;
 mod package;
+mod phrase;
+mod said;
 
+pub use detail::{Detail, details};
+pub use detailed::package_details;
+pub use ear::Ear;
 pub use excerpt::Excerpt;
+pub use idle::tell_plain;
+pub use last_word::{LastWord, Says};
+pub use line::{Line, Place, before, behind, characters_in, without_characters};
 pub use package::excerpts;
+pub use phrase::{Phrase, shortened};
+pub use said::{holds_text, is_paragraph, tell_bytes, tell_nodes, tell_start};

@@ -4,20 +4,20 @@ ghost use Rattle.std.specs.Prelude.{◌≡◌, ◌<◌, ◌∷◌, [], IfOk, IfS
 ghost use Rattle.redl_tree.specs.Model.IdleTexts.{idle_nodes};
 ghost use Rattle.redl_tree.specs.Model.View.{nodes_of, item_of, tag_of, kids_of};
 ghost use Rattle.redl_excerpts.specs.Excerpts.{TellsEach, is_moved, told_all};
-ghost use Rattle.redl_phrases.specs.Lines.{along, line_of};
+ghost use Rattle.redl_excerpts.specs.Lines.{along, line_of};
 ghost use Rattle.redl_excerpts.specs.Mentions.{Where, bytes_said, element_mentions, in_paragraph, item_mentions, member_told, mentions, stretch_in, told_by};
-ghost use Rattle.redl_phrases.specs.Said.{element_said, holds_text, item_said, said, start_said};
+ghost use Rattle.redl_excerpts.specs.Said.{element_said, holds_text, item_said, said, start_said};
 ghost use Rattle.redl_excerpts.specs.Inside.Around.{IsAround};
 ghost use Rattle.redl_excerpts.specs.Inside.Flat.{are_flat};
 ghost use Rattle.redl_excerpts.specs.Inside.Views.{where_of};
 
 use crate::excerpt::Excerpt;
 use crate::flat::{are_flat, count_telling};
-use redl_index::Revision;
-use redl_kinds::RevKind;
-use redl_phrases::{
+use crate::{
     Line, Place, holds_text, is_paragraph, tell_bytes, tell_nodes, tell_plain, tell_start,
 };
+use redl_index::Revision;
+use redl_kinds::RevKind;
 use redl_tree::{Elem, Kind, Node, Plain, Trace, is_quiet};
 use std::alloc::{AllocError, Global};
 

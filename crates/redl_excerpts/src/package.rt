@@ -7,11 +7,11 @@ ghost use Rattle.redl_tree.specs.Model.View.{kids_of};
 ghost use Rattle.redl_excerpts.specs.Excerpts.{TellsEach, excerpts_of, is_moved, nothing_told, package_mentions};
 ghost use Rattle.redl_excerpts.specs.Mentions.{mentions, outside};
 
+use crate::Place;
 use crate::excerpt::Excerpt;
 use crate::members::{Here, tell_members};
 use redl_index::{Index, Revision};
 use redl_opc::Package;
-use redl_phrases::Place;
 use redl_tree::Elem;
 use std::alloc::{AllocError, Global};
 

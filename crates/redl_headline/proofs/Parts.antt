@@ -12,7 +12,7 @@ use Rattle.redl_io.specs.Shelf.{Files}
 use Rattle.redl_journal.specs.Journals.{Journal}
 use Rattle.redl_journal.specs.declared.entry.Entry.{Entry}
 use Rattle.redl_lines.specs.declared.failure.Limit.TheVariants.{PackageBytes}
-use Rattle.redl_locks_sound.proofs.Opened.{shape-read}
+use Rattle.redl_sound.proofs.Locked.Opened.{shape-read}
 use Rattle.redl_outcome.proofs.AnyOrderLaws.{found_journal, same_document}
 use Rattle.redl_outcome.proofs.LeftLaws.{sound_package}
 use Rattle.redl_rounds_sound.proofs.OneFile.{given_own}

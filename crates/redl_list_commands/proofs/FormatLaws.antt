@@ -18,7 +18,7 @@ use Rattle.redl_lines.specs.Remarks.{all_refused}
 use Rattle.redl_lines.specs.Ends.{End, end_status, written_status}
 use Rattle.redl_lines.specs.Refused.{RefusedEntries}
 use Rattle.redl_lines.specs.Failures.{Failure, caused, unread, no_memory, no_format, failure_status}
-use Rattle.redl_details.specs.declared.detail.Detail.{Detail}
+use Rattle.redl_excerpts.specs.declared.detail.Detail.{Detail}
 use Rattle.redl_formats.proofs.NameLaws.{named_here, named_later}
 use Rattle.redl_formats.specs.Formats.{IsListed, first_named}
 use Rattle.redl_index.specs.declared.revision.Revision.{Revision}

@@ -8,7 +8,7 @@ ghost use Rattle.redl_inputs.specs.Reading.{ReadsFiles, Reads};
 ghost use Rattle.redl_commands.specs.Views.{writing_view};
 ghost use Rattle.redl_inputs.specs.Views.{admission_view, result_view};
 ghost use Rattle.redl_commands.specs.Writing.{outcome_of};
-ghost use Rattle.redl_details.specs.Details.{IsDetail};
+ghost use Rattle.redl_excerpts.specs.Details.{IsDetail};
 ghost use Rattle.redl_formats.specs.Formats.{IsListed, first_named, without_named};
 ghost use Rattle.redl_listing.specs.Rows.{shown_rows, told_rows};
 ghost use Rattle.redl_opc.specs.Shape.{parts_of};
@@ -16,7 +16,7 @@ ghost use Rattle.redl_words.specs.Views.{onlys_view};
 
 use crate::shown::shown_revisions;
 use redl_commands::{Output, Writing};
-use redl_details::{Detail, package_details};
+use redl_excerpts::{Detail, package_details};
 use redl_index::Index;
 use redl_inputs::{Admitted, name_of, open_package, read_package};
 use redl_io::{Shelf, Text};

@@ -8,7 +8,7 @@ use Rattle.serde_json.proofs.Texts.{print-outline}
 use Rattle.serde_json.specs.Data.{Data, unsigned, object, member, no_members}
 use Rattle.serde_json.specs.Data as value
 use Rattle.serde_json.specs.Written.{items_outline, outline}
-use Rattle.redl_details.specs.declared.last_word.LastWord.{LastWord}
+use Rattle.redl_excerpts.specs.declared.last_word.LastWord.{LastWord}
 use Rattle.redl_kinds.specs.KindNames.{kind_name}
 use Rattle.redl_journal.specs.Journals.{word_text}
 use Rattle.redl_listing.specs.declared.row.Row.{Row}

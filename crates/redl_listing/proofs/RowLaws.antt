@@ -6,8 +6,8 @@ use Rattle.std.proofs.lemmas.Str.{IsUtf8-from_ascii}
 use Rattle.std.proofs.lemmas.Str.Ascii.{IsAscii-nil}
 use Rattle.redl_index.specs.declared.revision.Revision.{Revision}
 use Rattle.redl_join.specs.declared.verdict.Verdict.{Verdict}
-use Rattle.redl_details.specs.declared.detail.Detail.{Detail}
-use Rattle.redl_details.specs.Details.{IsDetail, no_detail}
+use Rattle.redl_excerpts.specs.declared.detail.Detail.{Detail}
+use Rattle.redl_excerpts.specs.Details.{IsDetail, no_detail}
 use Rattle.redl_listing.specs.Rows.{first_detail, first_shown, shown_rows, more_details, more_shown, told_row, told_rows}
 use Rattle.redl_listing.specs.declared.row.Row.{Row}
 

@@ -4,7 +4,7 @@ use Rattle.std.specs.Fmt.{digits}
 use Rattle.redl_tree.specs.declared.kinds.Trace.TheVariants.{Ins}
 use Rattle.redl_kinds.specs.declared.rev_kind.RevKind.TheVariants.{Content, Move}
 use Rattle.redl_join.specs.declared.verdict.Verdict.TheVariants.{Undecided, Disputed}
-use Rattle.redl_details.specs.Details.{no_detail}
+use Rattle.redl_excerpts.specs.Details.{no_detail}
 use Rattle.redl_listing.specs.declared.row.Row.{Row}
 use Rattle.redl_formats.specs.Dates.{year_and_day, month_and_day}
 use Rattle.redl_formats.specs.Fields.{tab, newline, escape}

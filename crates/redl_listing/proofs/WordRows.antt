@@ -6,7 +6,7 @@ use Rattle.redl_tree.specs.declared.kinds.Prop.TheVariants as prop
 use Rattle.redl_kinds.specs.declared.rev_kind.RevKind.TheVariants.{Content, Change}
 use Rattle.redl_join.specs.declared.verdict.Verdict.TheVariants.{Accept, Disputed}
 use Rattle.redl_journal.specs.declared.entry.Word.TheVariants as word
-use Rattle.redl_phrases.specs.Phrases.{begun, heard_byte, paused}
+use Rattle.redl_excerpts.specs.Phrases.{begun, heard_byte, paused}
 use Rattle.redl_listing.specs.declared.row.Row.{Row}
 use Rattle.redl_formats.specs.Fields.{newline}
 use Rattle.redl_terminal.specs.Masks.{hidden_length}

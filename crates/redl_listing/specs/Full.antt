@@ -4,7 +4,7 @@ use Rattle.std.specs.Prelude.{ℕ, Bool, List, [], ◌∷◌, codes, decimal, Op
 use Rattle.json.specs.Token.{Token, begin_object, end_object, key, null as null_token, number as number_token, string as string_token}
 use Rattle.serde_json.specs.Data.{Data, Items, null, string, number, unsigned, array, object, member, no_members, item, no_items}
 use Rattle.serde_json.specs.Written.{compact_text}
-use Rattle.redl_details.specs.declared.last_word.LastWord.{LastWord}
+use Rattle.redl_excerpts.specs.declared.last_word.LastWord.{LastWord}
 use Rattle.redl_kinds.specs.KindNames.{kind_name}
 use Rattle.redl_journal.specs.Journals.{word_text}
 use Rattle.redl_listing.specs.declared.row.Row.{Row}

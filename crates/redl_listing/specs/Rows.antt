@@ -1,8 +1,8 @@
 -- The rows of a listing: what it says of each revision (our own rule).
 use Rattle.std.specs.Prelude.{ℕ, Bool, true, List, [], ◌∷◌, IsTrue, IfSome, if◌then◌else◌, unwrap_or, slice_get}
 use Rattle.std.specs.Str.{IsUtf8}
-use Rattle.redl_details.specs.declared.detail.Detail.{Detail}
-use Rattle.redl_details.specs.Details.{IsDetail, no_detail}
+use Rattle.redl_excerpts.specs.declared.detail.Detail.{Detail}
+use Rattle.redl_excerpts.specs.Details.{IsDetail, no_detail}
 use Rattle.redl_stamp.specs.Moment.{IsMoment}
 use Rattle.redl_kinds.specs.Kinds.{is_named}
 use Rattle.redl_index.specs.declared.revision.Revision.{Revision}

@@ -3,9 +3,9 @@
 -- 12 places before, 4 for the signs, 31 for the words, 11 behind. A disputed row also says who said what.
 use Rattle.std.specs.Prelude.{ℕ, ◌-◌, nat_le, false, List, [], ◌∷◌, ◌++◌, replicate, decimal, codes, if◌then◌else◌}
 use Rattle.std.specs.List.{flat_map}
-use Rattle.redl_phrases.specs.Lines.{characters_in, without_characters}
-use Rattle.redl_phrases.specs.Phrases.{heard, kept_text, nothing_heard}
-use Rattle.redl_details.specs.declared.last_word.LastWord.{LastWord}
+use Rattle.redl_excerpts.specs.Lines.{characters_in, without_characters}
+use Rattle.redl_excerpts.specs.Phrases.{heard, kept_text, nothing_heard}
+use Rattle.redl_excerpts.specs.declared.last_word.LastWord.{LastWord}
 use Rattle.redl_kinds.specs.KindNames.{kind_name}
 use Rattle.redl_kinds.specs.declared.rev_kind.RevKind.{RevKind}
 use Rattle.redl_kinds.specs.declared.rev_kind.RevKind.TheVariants.{Content, Move, Mark, Row as RowKind, Cell, Change}

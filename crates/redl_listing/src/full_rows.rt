@@ -9,7 +9,7 @@ ghost use Rattle.redl_listing.specs.Full.{front_tokens, full_row, id_token, said
 
 use crate::row::Row;
 use json::Writer;
-use redl_details::LastWord;
+use redl_excerpts::LastWord;
 use redl_formats::{Piece, put_date, put_number, put_text, verdict_name, word_name};
 use redl_io::Text;
 use std::alloc::AllocError;

@@ -5,14 +5,14 @@ ghost use Rattle.std.specs.Str.{IsUtf8};
 ghost use Rattle.redl_index.specs.Revisions.{IsListable};
 ghost use Rattle.redl_index.specs.declared.revision.Revision.{Revision};
 ghost use Rattle.redl_listing.specs.Rows.{IsRow, first_detail, first_shown, rows_of, shown_rows, told_row, told_rows};
-ghost use Rattle.redl_details.specs.Details.{IsDetail};
+ghost use Rattle.redl_excerpts.specs.Details.{IsDetail};
 ghost use Rattle.redl_formats.specs.Formats.{first_named, without_named, IsListed};
 ghost use Rattle.redl_listing.specs.declared.row.Row.{Row};
 
 use crate::format::{RowError, RowFormat};
 use crate::named::take_named;
 use crate::row::Row;
-use redl_details::Detail;
+use redl_excerpts::Detail;
 use redl_index::{Index, Revision};
 use redl_io::Text;
 use redl_join::Verdict;

@@ -4,9 +4,9 @@ ghost use Rattle.std.specs.Prelude.{◌≡◌, ◌<◌, length, All, IfOk};
 ghost use Rattle.std.specs.Str.{IsUtf8};
 ghost use Rattle.redl_index.specs.Revisions.{IsListable};
 ghost use Rattle.redl_listing.specs.Rows.{IsRow, told_row};
-ghost use Rattle.redl_details.specs.Details.{IsDetail};
+ghost use Rattle.redl_excerpts.specs.Details.{IsDetail};
 
-use redl_details::Detail;
+use redl_excerpts::Detail;
 use redl_formats::Item;
 use redl_index::Revision;
 use redl_io::Text;

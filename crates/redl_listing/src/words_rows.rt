@@ -8,11 +8,10 @@ ghost use Rattle.redl_terminal.specs.declared.extent.Extent.TheVariants.{Field};
 ghost use Rattle.redl_listing.specs.Words.{closing, closing_of, in_places, near_end, numbered_columns, opening, opening_of, quoted, said_text, says_text, shortened, words_columns, words_row};
 
 use crate::row::Row;
-use redl_details::{LastWord, Says};
+use redl_excerpts::{LastWord, Says, characters_in, shortened, without_characters};
 use redl_formats::{Piece, push_left, push_number, push_spaces, verdict_name, word_name};
 use redl_join::Verdict;
 use redl_kinds::RevKind;
-use redl_phrases::{characters_in, shortened, without_characters};
 use redl_terminal::{Extent, push_masked};
 use redl_tree::Trace;
 use std::alloc::{AllocError, Global};

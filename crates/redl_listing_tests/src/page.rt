@@ -6,10 +6,9 @@ use redl_io::MemSink;
 use redl_join::Book;
 use redl_journal::read;
 use redl_opc::Package;
-use redl_outline::{package, part};
+use redl_outline::{book_of, journal_text, package, part};
 use redl_page::{Heading, Shown, Skin, write_page};
 use redl_page_stories::put_document;
-use redl_test_journals::{book_of, journal_text};
 use std::alloc::{AllocError, Global};
 use std::test::Fail;
 

@@ -6,11 +6,11 @@ ghost use Rattle.redl_report.specs.Counts.{IsLine};
 use crate::numbered::index_of;
 use redl_join::Book;
 use redl_journal::JournalError;
+use redl_outline::{add_entries, book_of};
 use redl_report::{
     JsonReport, ReportFormat, ReportLine, TableReport, TextReport, add_report_format, lines,
     lines_by_kind, report,
 };
-use redl_test_journals::{add_entries, book_of};
 use std::alloc::{AllocError, Global};
 use std::test::Fail;
 

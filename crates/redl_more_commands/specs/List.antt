@@ -6,8 +6,8 @@ use Rattle.redl_more_commands.specs.Formats.{Format, format_named}
 use Rattle.redl_inputs.specs.Readers.{Reader}
 use Rattle.redl_inputs.specs.Steps.{◌>>=◌}
 use Rattle.redl_commands.specs.Writing.{Writing}
-use Rattle.redl_details.specs.declared.detail.Detail.{Detail}
-use Rattle.redl_details.specs.Details.{package_details}
+use Rattle.redl_excerpts.specs.declared.detail.Detail.{Detail}
+use Rattle.redl_excerpts.specs.Details.{package_details}
 use Rattle.redl_io.specs.Shelf.{Files}
 use Rattle.redl_join.specs.declared.verdict.Verdict.{Verdict}
 use Rattle.redl_lines.specs.Failures.{Failure}

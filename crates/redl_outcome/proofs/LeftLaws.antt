@@ -21,7 +21,7 @@ use Rattle.redl_inputs.specs.Steps.{◌>>=◌}
 use Rattle.redl_commands.specs.Writing.{Outcome, Writing, outcome_of}
 use Rattle.redl_words.specs.Commands.{Command, settle, view_text, list, report, page, write, decide, resume, join, check, sample}
 use Rattle.redl_io.specs.Limits.{journal_bytes}
-use Rattle.redl_locks_sound.proofs.Opened.{opened-left}
+use Rattle.redl_sound.proofs.Locked.Opened.{opened-left}
 use Rattle.redl_index.specs.Numbers.{numbered_package}
 use Rattle.redl_io.specs.Shelf.{Files}
 use Rattle.redl_lines.specs.Failures.{Failure, caused, unread, no_memory, failure_status}

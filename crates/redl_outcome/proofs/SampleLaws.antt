@@ -14,7 +14,7 @@ use Rattle.redl_lines.specs.Failures.{Failure}
 use Rattle.redl_lines.specs.Lines.{sample_paragraphs}
 use Rattle.redl_lines.specs.declared.status.Status.TheVariants as status
 use Rattle.redl_sample.specs.Packages.{package_text}
-use Rattle.redl_sample_sound.proofs.Samples.{sound_sample}
+use Rattle.redl_sound.proofs.Sampled.Samples.{sound_sample}
 use Rattle.redl_tree.specs.Model.Nodes.{Nodes}
 use Rattle.redl_words.specs.Commands.{Command, IsCommand, sample}
 

@@ -16,7 +16,7 @@ use Rattle.redl_outcome.specs.Plans.{Plan, Deciding, nothing, all_of_them, by_ve
 use Rattle.redl_words.specs.Commands.{Command, IsCommand}
 use Rattle.redl_index.specs.Numbers.{numbered_package}
 use Rattle.redl_io.specs.Shelf.{Files}
-use Rattle.redl_locks_sound.specs.Held.{IsHeld}
+use Rattle.redl_sound.specs.Held.{IsHeld}
 use Rattle.redl_rules.specs.Attributes.{rules}
 use Rattle.redl_tree.specs.Model.Nodes.{Nodes}
 use Rattle.redl_tree.specs.Model.Seen.{Seen}

@@ -20,14 +20,16 @@
 //! The nodes of an outline are labelled: each element has the role as its kind that it has in its place, and a member belongs
 //! to revision 1. The prefixes `w`, `m` and `pkg` mean the namespaces that they usually mean, all others mean other ones.
 //!
-//! Read `Outline` first, then `package`. It is a crate for tests alone: `redl_tree_tests` tests it, and no contract says
+//! Read `Outline` first, then `package`; small journals are in `journals.rt`. It is a crate for tests alone: `redl_tree_tests` tests it, and no contract says
 //! what it makes.
 #![tactic(auto)]
 
+mod journals;
 mod nodes;
 mod outline;
 mod packages;
 mod words;
 
+pub use journals::{add_entries, book_of, entries_of, journal_text};
 pub use outline::{Outline, nodes_text, outline_text};
 pub use packages::{document, document_package, package, part};

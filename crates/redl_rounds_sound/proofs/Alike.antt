@@ -17,7 +17,7 @@ use Rattle.redl_io.specs.Shelf.{Files}
 use Rattle.redl_join.specs.Verdicts.{verdict_at}
 use Rattle.redl_kinds.specs.declared.lock.Lock.{Lock}
 use Rattle.redl_lines.specs.Failures.{Failure}
-use Rattle.redl_locks_sound.proofs.Opened.{shape-read}
+use Rattle.redl_sound.proofs.Locked.Opened.{shape-read}
 use Rattle.redl_outcome.proofs.LeftLaws.{is_made}
 use Rattle.redl_outcome.specs.Brought.{Brought}
 use Rattle.redl_outcome.specs.Outcome.{writing_of}

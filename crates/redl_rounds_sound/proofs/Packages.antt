@@ -11,7 +11,7 @@ use Rattle.redl_inputs.specs.Steps.{◌>>=◌}
 use Rattle.redl_io.specs.Limits.{depth as depth_limit, nodes as node_limit}
 use Rattle.redl_index.specs.Numbers.{package_revisions}
 use Rattle.redl_lines.specs.Failures.{Failure}
-use Rattle.redl_locks_sound.proofs.Opened.{shape-read, sound-same}
+use Rattle.redl_sound.proofs.Locked.Opened.{shape-read, sound-same}
 use Rattle.redl_opc.specs.Shape.{refusal}
 use Rattle.redl_opc.specs.declared.error.OpcError.{OpcError}
 use Rattle.redl_rounds_sound.proofs.Bounds.{revisions-counted}

@@ -4,8 +4,8 @@ ghost use Rattle.std.specs.Prelude.{IfOk, All, IsUtf8};
 
 use redl_app::{Status, run_words};
 use redl_io::{MemShelf, MemSink, Text};
-use redl_own::add_word;
 use redl_page::Skin;
+use redl_words::add_word;
 use std::alloc::{AllocError, Global};
 
 /// What a call came to: its status, what was written, and the lines on standard error.

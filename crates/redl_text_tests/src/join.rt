@@ -2,7 +2,7 @@
 use redl_io::{MemSink, Text};
 use redl_join::{Book, Verdict};
 use redl_journal::{Entry, JournalError, Word};
-use redl_test_journals::{add_entries, book_of};
+use redl_outline::{add_entries, book_of};
 use std::alloc::{AllocError, Global};
 use std::test::Fail;
 

@@ -1,6 +1,6 @@
 //! What the program tells of itself. The launcher of a checkout reads these texts too, each by the name of its constant.
 
-use redl_own::Part;
+use redl_app::Part;
 
 /// The text of `--version`: the program's version, and the logic that it is proved with.
 pub const VERSION: &str = "redline 1.0.0\nlogic dac8208d650f15bf\n";

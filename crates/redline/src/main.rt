@@ -9,11 +9,11 @@
 mod help;
 
 use help::{HELP, PARTS, VERSION};
-use redl_app::{WordsError, answer};
+use redl_app::{Texts, WordsError, answer, own_of};
 use redl_hints::{Fetched, Told, tell_hints, tell_word_hint};
 use redl_io::{FileShelf, Shelf, Sink, StdSink, Text};
-use redl_own::{Texts, given_words, own_of};
 use redl_skin::page_skin;
+use redl_words::given_words;
 use std::alloc::Global;
 use std::process::ExitCode;
 

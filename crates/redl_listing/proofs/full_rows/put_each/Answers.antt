@@ -1,7 +1,7 @@
 -- Each reviewer is UTF-8.
 use Rattle.std.proofs.Common.{subst, sym, arith}
 use Rattle.std.specs.Str.{IsUtf8}
-use Rattle.redl_details.specs.declared.last_word.LastWord.{LastWord}
+use Rattle.redl_excerpts.specs.declared.last_word.LastWord.{LastWord}
 use Rattle.redl_listing.proofs.full_rows.put_each.Goals as goal
 
 pub put_said-requires : goal.put_said-requires

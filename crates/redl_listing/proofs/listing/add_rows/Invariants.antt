@@ -1,5 +1,5 @@
 use Rattle.std.proofs.Common.{◌≡◌, Bool, false, List, ◌++◌, drop, All}
-use Rattle.redl_details.specs.Details.{IsDetail}
+use Rattle.redl_excerpts.specs.Details.{IsDetail}
 use Rattle.redl_listing.specs.Rows.{shown_rows, told_rows}
 use Rattle.redl_listing.specs.declared.row.Row.{Row}
 use Rattle.redl_listing.proofs.listing.add_rows.Given as goal

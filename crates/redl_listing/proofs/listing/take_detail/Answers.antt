@@ -1,7 +1,7 @@
 -- Where one detail was taken none is left, and the others stay.
 use Rattle.std.proofs.Common.{◌∙◌, sym, subst}
 use Rattle.std.proofs.lemmas.List.Elements.{All-set}
-use Rattle.redl_details.specs.Details.{IsDetail}
+use Rattle.redl_excerpts.specs.Details.{IsDetail}
 use Rattle.redl_listing.proofs.RowLaws.{no_detail-is}
 use Rattle.redl_listing.proofs.listing.take_detail.Goals as goal
 

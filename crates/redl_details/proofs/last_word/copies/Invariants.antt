@@ -1,5 +1,0 @@
-use Rattle.std.proofs.Common.{◌≡◌, take}
-use Rattle.redl_details.proofs.last_word.copies.Given as goal
-
-abbrev pub invariant-loop-said : goal.invariant-loop-said
-invariant-loop-said l = l.copies.items ≡ take l.said-index l.words

@@ -1,0 +1,56 @@
+-- Details: what a listing shows of a revision beside its row, its text and the last words of its reviewers (our own rule).
+use Rattle.std.specs.Prelude.{ℕ, ◌+◌, List, [], ◌∷◌, map, All, IfSome, None, if◌then◌else◌}
+use Rattle.std.specs.Option.{option_map}
+use Rattle.std.specs.Str.{IsUtf8, is_utf8}
+use Rattle.redl_excerpts.specs.declared.excerpt.Excerpt.{Excerpt}
+use Rattle.redl_excerpts.specs.Phrases.{kept_text}
+use Rattle.redl_excerpts.specs.Excerpts.{excerpts_of}
+use Rattle.redl_index.specs.declared.revision.Revision.{Revision}
+use Rattle.redl_join.specs.LastWords.{last_words}
+use Rattle.redl_journal.specs.declared.entry.Entry.{Entry}
+use Rattle.redl_tree.specs.Model.Nodes.{Nodes}
+use Rattle.redl_excerpts.specs.declared.last_word.LastWord.{LastWord}
+use Rattle.redl_excerpts.specs.declared.detail.Detail.{Detail}
+
+-- The bytes, where they are UTF-8, and else nothing. What is read of a package and of journals is UTF-8.
+abbrev pub text_or_nothing : List ℕ → List ℕ
+text_or_nothing bytes = if is_utf8 bytes then bytes else []
+
+-- who said what
+abbrev pub last_word_of : Entry → LastWord
+last_word_of entry = record { reviewer = text_or_nothing entry.reviewer; word = entry.word }
+
+-- the detail of a revision with this excerpt, where these are the last words on it
+abbrev pub detail_of : Excerpt → List Entry → Detail
+detail_of excerpt entries = record {
+  words = text_or_nothing (kept_text excerpt.words);
+  before = text_or_nothing excerpt.before;
+  after = text_or_nothing excerpt.behind;
+  id = option_map text_or_nothing excerpt.id;
+  says = map last_word_of entries;
+}
+
+-- no detail
+abbrev pub no_detail : Detail
+no_detail = record { words = []; before = []; after = []; id = None; says = [] }
+
+-- the details of revisions, of which the first has this number
+abbrev pub details_from : ℕ → List Excerpt → (ℕ → List Entry) → List Detail
+details_from number [] entries_on = []
+details_from number (excerpt ∷ more) entries_on = detail_of excerpt (entries_on number) ∷ details_from (number + 1) more entries_on
+
+-- the details of the revisions from number 1 on
+abbrev pub details_of : List Excerpt → (ℕ → List Entry) → List Detail
+details_of excerpts entries_on = details_from 1 excerpts entries_on
+
+-- what a detail keeps: its texts are UTF-8
+pub record IsDetail (detail : Detail) : Type 0 where
+  pub words : IsUtf8 detail.words
+  pub before : IsUtf8 detail.before
+  pub after : IsUtf8 detail.after
+  pub id : IfSome detail.id IsUtf8
+  pub says : All (λ (said : LastWord). IsUtf8 said.reviewer) detail.says
+
+-- the details of the revisions of a package, on which a book has these entries
+abbrev pub package_details : Nodes → List Revision → List Entry → List Detail
+package_details nodes revisions book = details_of (excerpts_of nodes revisions) (last_words book)

@@ -1,0 +1,120 @@
+//! What a listing shows of a revision beside its row.
+
+ghost use Rattle.std.specs.Prelude.{◌≡◌, ◌+◌, ◌^◌, ◌<◌, All, IfOk, length, map};
+ghost use Rattle.std.specs.Map.Iter.{deref};
+ghost use Rattle.redl_join.specs.LastWords.{words_on};
+ghost use Rattle.redl_excerpts.specs.Details.{IsDetail, detail_of, details_of, no_detail};
+
+use crate::Excerpt;
+use crate::checked::{kept, kept_if_any};
+use crate::last_word::Says;
+use redl_io::Text;
+use redl_join::LastWords;
+use redl_journal::Entry;
+use std::alloc::{AllocError, Global};
+
+/// The text of a revision and the last words on it.
+#[derive(Drop)]
+pub struct Detail {
+    /// The words of the revision, at most 200 characters, and three dots where there are more.
+    pub words: Text,
+    /// What stands before them in the same paragraph, at most 40 characters.
+    pub before: Text,
+    /// What stands behind them in the same paragraph, at most 40 characters.
+    pub after: Text,
+    /// The own id of the revision's first element, where it has one.
+    pub id: Option<Text>,
+    /// Who said what.
+    pub says: Says,
+}
+
+impl Detail {
+    /// No detail. `Err` means out of memory.
+    pub fn none(alloc: Global) -> Result<Detail, AllocError>
+        ensures { IfOk result (λ detail. detail ≡ no_detail) }
+    {
+        Ok(Detail {
+            words: Text::copy_of(alloc, b"")?,
+            before: Text::copy_of(alloc, b"")?,
+            after: Text::copy_of(alloc, b"")?,
+            id: None,
+            says: Says::none(alloc),
+        })
+    }
+
+    // The detail of a revision with this excerpt, where these are the last words on it. `Err` means out of memory.
+    fn of(alloc: Global, excerpt: Excerpt, entries: &[&Entry]) -> Result<Detail, AllocError>
+        ensures value { IfOk result (λ detail. detail ≡ detail_of excerpt (map deref entries.now)) }
+        ensures utf8 { IfOk result IsDetail }
+    {
+        let Excerpt {
+            words,
+            id,
+            before,
+            behind,
+            ..
+        } = excerpt;
+        let words = kept(alloc, words.into_text(alloc)?)?;
+        let before = kept(alloc, before)?;
+        let after = kept(alloc, behind)?;
+        let id = kept_if_any(alloc, id)?;
+        let says = Says::of(alloc, entries)?;
+        Ok(Detail {
+            words,
+            before,
+            after,
+            id,
+            says,
+        })
+    }
+
+    /// An equal detail. `Err` means out of memory.
+    pub fn copy(&self, alloc: Global) -> Result<Detail, AllocError>
+        ensures { IfOk result (λ copy. copy ≡ self.now) }
+    {
+        let words = self.words.copy(alloc)?;
+        let before = self.before.copy(alloc)?;
+        let after = self.after.copy(alloc)?;
+        let id = copy_if_any(alloc, &self.id)?;
+        let says = self.says.copy(alloc)?;
+        Ok(Detail {
+            words,
+            before,
+            after,
+            id,
+            says,
+        })
+    }
+}
+
+fn copy_if_any(alloc: Global, text: &Option<Text>) -> Result<Option<Text>, AllocError>
+    ensures { IfOk result (λ copy. copy ≡ text.now) }
+{
+    match text {
+        Some(text) => {
+            let copy = text.copy(alloc)?;
+            Ok(Some(copy))
+        }
+        None => Ok(None),
+    }
+}
+
+/// The details of the revisions of a package, which have these excerpts in the order of their numbers, where these are the last
+/// words on them. `Err` means out of memory.
+pub fn details(
+    alloc: Global,
+    excerpts: Vec<Excerpt>,
+    words: &LastWords<'_>,
+) -> Result<Vec<Detail>, AllocError>
+    requires { length excerpts.items < 2 ^ 32 }
+    ensures value { IfOk result (λ details. details.items ≡ details_of excerpts.items (words_on words.now)) }
+    ensures utf8 { IfOk result (λ details. All IsDetail details.items) }
+{
+    let mut details = Vec::new(alloc);
+    for excerpt in excerpts {
+        let number = details.len() as u32 + 1;
+        let detail = Detail::of(alloc, excerpt, words.on(number))?;
+        details.push(detail)?;
+    }
+    Ok(details)
+}

@@ -1,0 +1,31 @@
+//! The details of a package.
+
+ghost use Rattle.std.specs.Prelude.{◌≡◌, ◌<◌, ◌^◌, All, IfOk, length};
+ghost use Rattle.redl_excerpts.specs.Details.{IsDetail, package_details};
+
+use crate::detail::{Detail, details};
+use crate::excerpts;
+use redl_index::Index;
+use redl_join::Book;
+use redl_opc::Package;
+use std::alloc::{AllocError, Global};
+
+/// The details of the revisions of a numbered package, in the order of their numbers, on which the book has these entries. `Err`
+/// means out of memory.
+///
+/// The index is that of the package. It goes over each story once.
+pub fn package_details(
+    alloc: Global,
+    pkg: &Package,
+    index: &Index,
+    book: &Book,
+) -> Result<Vec<Detail>, AllocError>
+    ensures value { IfOk result (λ details. details.items ≡ package_details pkg.now index.now book.now) }
+    ensures utf8 { IfOk result (λ details. All IsDetail details.items) }
+{
+    let _count = index.count();
+    let excerpts = excerpts(alloc, pkg, index)?;
+    let words = book.last_words()?;
+    let details = details(alloc, excerpts, &words)?;
+    Ok(details)
+}

@@ -1,3 +1,0 @@
-mod Books
-pub mod Held
-pub mod Opened

@@ -1,5 +1,0 @@
-pub mod PhraseLaws
-pub mod EvenLaws
-pub mod SaidLaws
-pub mod IdleLaws
-mod Rows

@@ -1,2 +1,0 @@
--- What no public clause of this crate names: how its own code is stated.
-pub mod Idle

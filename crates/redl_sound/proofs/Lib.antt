@@ -1,0 +1,5 @@
+pub mod Stamps
+pub mod Grouped
+pub mod Numbered
+pub mod Sampled
+pub mod Locked

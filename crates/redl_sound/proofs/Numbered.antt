@@ -1,0 +1,6 @@
+pub mod Lists
+pub mod Labelled
+pub mod Mentions
+pub mod Walk
+pub mod Story
+pub mod Package

@@ -1,0 +1,13 @@
+pub mod Shapes
+pub mod Blocks
+pub mod Legal
+pub mod Outside
+pub mod Readings
+pub mod Rules
+pub mod Own
+pub mod Parts
+pub mod Moved
+pub mod Turns
+pub mod Placed
+pub mod Counted
+pub mod Samples
