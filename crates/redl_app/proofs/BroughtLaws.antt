@@ -3,7 +3,7 @@ use Rattle.std.proofs.Common.{◌≡◌, List, [], ◌∷◌, ◌++◌, map, ap,
 use Rattle.std.proofs.lemmas.List.{map-append}
 use Rattle.std.specs.declared.dyn_box.DynBox.{DynBox}
 use Rattle.redl_outcome.specs.Brought.{Brought}
-use Rattle.redl_more_commands.specs.Formats.{Format}
+use Rattle.redl_commands_shown.specs.Formats.{Format}
 use Rattle.redl_listing.specs.declared.row.Row.{Row}
 use Rattle.redl_page.specs.Page.{Skin}
 use Rattle.redl_report.specs.declared.line.ReportLine.{ReportLine}

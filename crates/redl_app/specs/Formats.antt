@@ -1,7 +1,7 @@
 -- The formats that the program brings to a call.
 use Rattle.std.specs.Prelude.{ℕ, List, [], ◌∷◌, codes, true}
 use Rattle.redl_outcome.specs.Brought.{Brought}
-use Rattle.redl_more_commands.specs.Formats.{Format}
+use Rattle.redl_commands_shown.specs.Formats.{Format}
 use Rattle.redl_formats.specs.Formats.{lines_of, array_of}
 use Rattle.redl_listing.specs.Full.{full_row}
 use Rattle.redl_listing.specs.Texts.{text_row, tab_row, json_row}

@@ -3,7 +3,7 @@
 ghost use Rattle.std.specs.Prelude.{◌≡◌, IfOk, OnErr, All, IsUtf8};
 ghost use Rattle.redl_app.specs.Answers.{Answers};
 ghost use Rattle.redl_app.specs.Formats.{brings, program_brings};
-ghost use Rattle.redl_more_commands.specs.Formats.{AreFresh, formats_by};
+ghost use Rattle.redl_commands_shown.specs.Formats.{AreFresh, formats_by};
 
 use crate::top::{refuse_words, run};
 use redl_io::{Shelf, Sink, Text};

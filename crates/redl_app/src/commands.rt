@@ -4,24 +4,24 @@ ghost use Rattle.std.specs.Prelude.{◌≡◌, Ok};
 ghost use Rattle.std.specs.Option.{option_copied};
 ghost use Rattle.redl_outcome.specs.Brought.{brought_by};
 ghost use Rattle.redl_commands.specs.Endings.{Ends};
-ghost use Rattle.redl_more_commands.specs.Formats.{AreFresh, LeavesFormats, formats_by, has_format, without_asked};
+ghost use Rattle.redl_commands_shown.specs.Formats.{AreFresh, LeavesFormats, formats_by, has_format, without_asked};
 ghost use Rattle.redl_outcome.specs.Plans.{IsTextFor, made_with, plan};
 ghost use Rattle.redl_lines.specs.Ends.{end_status, end_view};
 ghost use Rattle.redl_words.specs.Commands.{HasUtf8};
 ghost use Rattle.redl_words.specs.Views.{command_of};
 
 use redl_commands::put;
+use redl_commands_list::{list_package, report_package};
+use redl_commands_resume::resume_package;
+use redl_commands_sample::make_sample;
+use redl_commands_show::{check_package, put_page, put_text};
+use redl_commands_write::{decide_package, join_files, settle_package, write_package};
 use redl_io::{Shelf, Sink};
 use redl_lines::End;
-use redl_list_commands::{list_package, report_package};
 use redl_listing::RowFormat;
 use redl_page::Skin;
 use redl_report::ReportFormat;
-use redl_resume_command::resume_package;
-use redl_sample_command::make_sample;
-use redl_show_commands::{check_package, put_page, put_text};
 use redl_words::Command;
-use redl_write_commands::{decide_package, join_files, settle_package, write_package};
 use std::alloc::Global;
 
 /// Makes what the command writes and puts it on the output. `text` is its package's, and there is one exactly if the command has

@@ -2,7 +2,7 @@
 
 ghost use Rattle.std.specs.Prelude.{◌≡◌};
 ghost use Rattle.std.specs.Option.{option_copied};
-ghost use Rattle.redl_more_commands.specs.Formats.{format_named, formats_by, has_format, whether};
+ghost use Rattle.redl_commands_shown.specs.Formats.{format_named, formats_by, has_format, whether};
 ghost use Rattle.redl_inputs.specs.Views.{result_view};
 
 use redl_lines::{Cause, Failure};

@@ -2,7 +2,7 @@
 //!
 //! Read `run` first: its clauses say what goes out and which status comes when, by the outcome of a call in
 //! `redl_outcome`. Then `answer`: the same with what the program brings to a call, its formats, its help and its version.
-//! What each command writes is defined in `redl_commands` and `redl_more_commands`, and made in the five crates of commands above
+//! What each command writes is defined in `redl_commands` and `redl_commands_shown`, and made in the five crates of commands above
 //! these.
 //! Real files and streams are made by the program above.
 #![tactic(auto)]

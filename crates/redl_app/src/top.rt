@@ -9,7 +9,7 @@ ghost use Rattle.redl_outcome.specs.Files.{files_of};
 ghost use Rattle.redl_outcome.specs.Words.{IsWanted, named_files, read_view, words_failure};
 ghost use Rattle.redl_commands.specs.Endings.{Ends};
 ghost use Rattle.redl_outcome.specs.Brought.{brought_by};
-ghost use Rattle.redl_more_commands.specs.Formats.{AreFresh, LeavesFormats, formats_by, has_format, without_asked};
+ghost use Rattle.redl_commands_shown.specs.Formats.{AreFresh, LeavesFormats, formats_by, has_format, without_asked};
 ghost use Rattle.redl_outcome.specs.Left.{Leaves};
 ghost use Rattle.redl_outcome.specs.Sittings.{Resumes};
 ghost use Rattle.redl_outcome.specs.Outcome.{carried_out, outcome};

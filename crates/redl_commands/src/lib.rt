@@ -1,10 +1,10 @@
 //! What commands make of their files, as definitions, and how that goes out.
 //!
-//! Read `specs/Settle.antt` or `specs/Write.antt` first: a command has a module there, or in `redl_more_commands` where it needs more than
+//! Read `specs/Settle.antt` or `specs/Write.antt` first: a command has a module there, or in `redl_commands_shown` where it needs more than
 //! a session. The module says what is written for the files that the command names, or for which first cause nothing is. `put` promises how
 //! a call ends that writes what it made.
-//! The code that makes it is left to five crates beside each other: `redl_write_commands`, `redl_resume_command`, `redl_list_commands`,
-//! `redl_show_commands` and `redl_sample_command`.
+//! The code that makes it is left to five crates beside each other: `redl_commands_write`, `redl_commands_resume`, `redl_commands_list`,
+//! `redl_commands_show` and `redl_commands_sample`.
 #![tactic(auto)]
 
 mod collected;

@@ -8,9 +8,9 @@ use Rattle.redl_outcome.proofs.LeftLaws.{is_made}
 use Rattle.redl_outcome.specs.AnyOrder.{OrderDoesNotCount, with_journals}
 use Rattle.redl_commands.specs.Decide.{book_written, with_choices}
 use Rattle.redl_commands.specs.Join.{book_text, document_in, joined, union_of}
-use Rattle.redl_more_commands.specs.Report.{report_named, reported}
-use Rattle.redl_more_commands.specs.List.{listed, listing_named}
-use Rattle.redl_more_commands.specs.Page.{page_of}
+use Rattle.redl_commands_shown.specs.Report.{report_named, reported}
+use Rattle.redl_commands_shown.specs.List.{listed, listing_named}
+use Rattle.redl_commands_shown.specs.Page.{page_of}
 use Rattle.redl_page.specs.Page.{heading_with}
 use Rattle.redl_commands.specs.Write.{resolved}
 use Rattle.redl_outcome.specs.Brought.{Brought}

@@ -2,7 +2,7 @@
 use Rattle.std.proofs.Common.{◌≡◌, inr, ℕ, List, [], Option, None, Some, Result, Ok, Err, refl, ◌∙◌, subst}
 use Rattle.redl_outcome.specs.Files.{where_ok}
 use Rattle.redl_commands.specs.Endings.{Ends}
-use Rattle.redl_more_commands.specs.Formats.{Format, found_format, has_format, whether}
+use Rattle.redl_commands_shown.specs.Formats.{Format, found_format, has_format, whether}
 use Rattle.redl_commands.specs.Writing.{Writing}
 use Rattle.redl_inputs.proofs.ReadLaws.{fails_alone, never_as}
 use Rattle.redl_inputs.specs.Readers.{Reader}

@@ -8,7 +8,7 @@ use Rattle.redl_inputs.proofs.ReaderLaws.{reads_command}
 use Rattle.redl_outcome.specs.Answers.{IsAnswer, OfOutcome}
 use Rattle.redl_outcome.specs.Brought.{Brought}
 use Rattle.redl_commands.specs.Join.{book_text}
-use Rattle.redl_more_commands.specs.Resume.{book_of, first_sitting, left_by, of_second, resumed, resumption, second_failure, second_sitting, sitting_on, text_under}
+use Rattle.redl_commands_shown.specs.Resume.{book_of, first_sitting, left_by, of_second, resumed, resumption, second_failure, second_sitting, sitting_on, text_under}
 use Rattle.redl_commands.specs.Write.{left_text}
 use Rattle.redl_outcome.specs.Outcome.{outcome, writing_of}
 use Rattle.redl_outcome.specs.Sittings.{Differ, DifferExactly, Resumes, SittingsAgree}

@@ -4,7 +4,7 @@ use Rattle.std.specs.Str.{bytes_eq}
 use Rattle.redl_outcome.proofs.LeftLaws.{is_made}
 use Rattle.redl_outcome.specs.AnyOrder.{OrderOfSittings}
 use Rattle.redl_outcome.specs.Brought.{Brought}
-use Rattle.redl_more_commands.specs.Resume.{first_sitting, left_by, of_second, resumed, resumption, second_sitting, sitting_on}
+use Rattle.redl_commands_shown.specs.Resume.{first_sitting, left_by, of_second, resumed, resumption, second_sitting, sitting_on}
 use Rattle.redl_commands.specs.Write.{left_text}
 use Rattle.redl_outcome.specs.Outcome.{writing_of}
 use Rattle.redl_commands.specs.Writing.{Writing, outcome_of}

@@ -10,7 +10,7 @@ use Rattle.redl_outcome.specs.Files.{asked_by, files_of}
 use Rattle.redl_outcome.specs.Words.{IsWanted, read_view, named_files, words_failure}
 use Rattle.redl_commands.specs.Endings.{Ends, Finishes}
 use Rattle.redl_outcome.specs.Brought.{Brought}
-use Rattle.redl_more_commands.specs.Formats.{LeavesFormats, without_asked}
+use Rattle.redl_commands_shown.specs.Formats.{LeavesFormats, without_asked}
 use Rattle.redl_outcome.specs.Outcome.{writing_of}
 use Rattle.redl_outcome.specs.Plans.{Plan, plan}
 use Rattle.redl_inputs.specs.Asking.{EndsAsking}

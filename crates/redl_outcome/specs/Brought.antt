@@ -1,6 +1,6 @@
 -- What the program brings to a call, besides what it is asked for.
 use Rattle.std.specs.Prelude.{ℕ, Bool, List}
-use Rattle.redl_more_commands.specs.Formats.{Format, formats_by}
+use Rattle.redl_commands_shown.specs.Formats.{Format, formats_by}
 use Rattle.redl_listing.specs.declared.row.Row.{Row}
 use Rattle.redl_report.specs.declared.line.ReportLine.{ReportLine}
 use Rattle.redl_page.specs.Page.{Skin}

@@ -3,7 +3,7 @@ use Rattle.std.specs.Prelude.{◌≡◌, ◌≢◌, ◌↔◌, ℕ, List, Option
 use Rattle.redl_outcome.specs.Answers.{IsWritten}
 use Rattle.redl_outcome.specs.Brought.{Brought}
 use Rattle.redl_commands.specs.Join.{book_text}
-use Rattle.redl_more_commands.specs.Resume.{book_of, first_sitting, second_sitting, text_under}
+use Rattle.redl_commands_shown.specs.Resume.{book_of, first_sitting, second_sitting, text_under}
 use Rattle.redl_commands.specs.Write.{left_text}
 use Rattle.redl_outcome.specs.Files.{asked_by}
 use Rattle.redl_outcome.specs.Outcome.{outcome}

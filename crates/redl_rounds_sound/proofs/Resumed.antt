@@ -33,7 +33,7 @@ use Rattle.redl_lines.specs.Failures.{Failure, caused, not_written}
 use Rattle.redl_lines.specs.Refused.{with_refusals}
 use Rattle.redl_lines.specs.declared.status.Status.TheVariants as status
 use Rattle.redl_sound.proofs.Locked.Opened.{shape-read}
-use Rattle.redl_more_commands.specs.Resume.{book_of, left_by, of_second, second_sitting, sitting_on, text_under}
+use Rattle.redl_commands_shown.specs.Resume.{book_of, left_by, of_second, second_sitting, sitting_on, text_under}
 use Rattle.redl_sound.proofs.Numbered.Lists.{there-is}
 use Rattle.redl_outcome.proofs.LeftLaws.{is_made}
 use Rattle.redl_outcome.proofs.SittingLaws.{sittings_agree}

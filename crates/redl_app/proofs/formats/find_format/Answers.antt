@@ -1,5 +1,5 @@
 use Rattle.std.proofs.Common.{arith, sym}
-use Rattle.redl_list_commands.proofs.FormatLaws.{found_at, not_found_at, not_found}
+use Rattle.redl_commands_list.proofs.FormatLaws.{found_at, not_found_at, not_found}
 use Rattle.redl_app.proofs.formats.find_format.Goals as goal
 
 pub loop-format-preserved : goal.loop-format-preserved

@@ -1,0 +1,190 @@
+//! `list P` with a format, journals and locks, of all revisions or of those alone that are wanted.
+
+ghost use Rattle.std.specs.Prelude.{◌≡◌, ◌⊎◌, ◌<◌, Bool, true, length, slice_get, Ok, Some, All, IsUtf8, IfOk, OnErr, OnOk};
+ghost use Rattle.redl_commands_shown.specs.List.{listed, listing_named, part_names, session_details, session_verdicts, shows_details};
+ghost use Rattle.redl_commands_shown.specs.Shown.{shown_revisions};
+ghost use Rattle.redl_commands_shown.specs.Formats.{AreFresh, LeavesFormats, format_named, formats_by, whether};
+ghost use Rattle.redl_inputs.specs.Reading.{ReadsFiles, Reads};
+ghost use Rattle.redl_commands.specs.Views.{writing_view};
+ghost use Rattle.redl_inputs.specs.Views.{admission_view, result_view};
+ghost use Rattle.redl_commands.specs.Writing.{outcome_of};
+ghost use Rattle.redl_excerpts.specs.Details.{IsDetail};
+ghost use Rattle.redl_formats.specs.Formats.{IsListed, first_named, without_named};
+ghost use Rattle.redl_listing.specs.Rows.{shown_rows, told_rows};
+ghost use Rattle.redl_opc.specs.Shape.{parts_of};
+ghost use Rattle.redl_words.specs.Views.{onlys_view};
+
+use crate::shown::shown_revisions;
+use redl_commands::{Output, Writing};
+use redl_excerpts::{Detail, package_details};
+use redl_index::Index;
+use redl_inputs::{Admitted, name_of, open_package, read_package};
+use redl_io::{Shelf, Text};
+use redl_join::Verdict;
+use redl_lines::Failure;
+use redl_listing::{RowFormat, list_told};
+use redl_opc::Package;
+use redl_session::Session;
+use redl_words::{ListCommand, Only};
+use std::alloc::{AllocError, Global};
+
+/// The listing that the command asks for, of the package with this text, under the joined verdicts of its journals: in the first
+/// format that has the name and is there. It takes that format out of the list.
+pub fn list_package<'a, 'b, F: Shelf>(
+    alloc: Global,
+    command: &'a ListCommand,
+    bytes: &'b [u8],
+    shelf: &mut F,
+    formats: &mut Vec<Box<dyn RowFormat>>,
+) -> Result<Writing<'b>, Failure<'a>>
+    requires name { IsUtf8 command.now.format }
+    requires utf8 { All IsUtf8 command.now.journals.items }
+    requires there { whether (format_named (formats_by format_name text_for formats.old.items) command.now.format) ≡ Ok tt }
+    requires fresh { AreFresh is_closed rows_so_far formats.old.items }
+    ensures read { ReadsFiles F.told F.faults F.asked shelf.old shelf.new command.now.journals.items
+        (result_view writing_view result) (λ reader files. listed reader files (formats_by format_name text_for formats.old.items) command.now.format command.now.locks.items command.now.journals.items (onlys_view command.now.only.items) bytes.now) }
+    ensures formats { LeavesFormats (outcome_of (result_view writing_view result)).status
+        (without_named format_name command.now.format formats.old.items) formats.old.items formats.new.items }
+{
+    let name = name_of(&command.format);
+    let package = read_package(alloc, bytes)?;
+    let parts = part_names(alloc, package.package())?;
+    let admitted = open_package(
+        alloc,
+        package,
+        &command.locks,
+        &command.journals,
+        bytes,
+        shelf,
+    )?;
+    list_revisions(alloc, name, &command.only, &parts, admitted, formats)
+}
+
+// The names of the parts of a package.
+fn part_names(alloc: Global, pkg: &Package) -> Result<Vec<Text>, AllocError>
+    ensures names { IfOk result (λ names. names.items ≡ part_names pkg.now) }
+    ensures utf8 { IfOk result (λ names. All IsUtf8 names.items) }
+{
+    let mut names = Vec::new(alloc);
+    for part in 0..pkg.parts() {
+        names.push(Text::copy_of(alloc, part_name(pkg, part))?)?;
+    }
+    Ok(names)
+}
+
+// The name of one part.
+fn part_name<'n>(pkg: &'n Package, part: u32) -> &'n [u8]
+    requires { part < length (parts_of pkg.now) }
+    ensures value { slice_get (part_names pkg.now) part ≡ Some result.now }
+    ensures utf8 { IsUtf8 result.now }
+{
+    pkg.part_name(part).unwrap()
+}
+
+// The listing of those of a session's revisions that are shown, where these are the names of the parts of its package.
+fn list_revisions<'a, 'b>(
+    alloc: Global,
+    name: &'a str,
+    only: &[Only],
+    parts: &[Text],
+    admitted: Admitted<'b>,
+    formats: &mut Vec<Box<dyn RowFormat>>,
+) -> Result<Writing<'b>, Failure<'a>>
+    requires names { parts.now ≡ part_names admitted.session.nodes }
+    requires utf8 { All IsUtf8 parts.now }
+    requires parts { All (λ revision. revision.part < length parts.now) admitted.session.revisions }
+    requires there { whether (format_named (formats_by format_name text_for formats.old.items) name.now) ≡ Ok tt }
+    requires fresh { AreFresh is_closed rows_so_far formats.old.items }
+    ensures read { Reads (result_view writing_view result) (λ reader. listing_named
+        (formats_by format_name text_for formats.old.items) name.now (onlys_view only.now) (admission_view admitted.entry)) }
+    ensures formats { LeavesFormats (outcome_of (result_view writing_view result)).status
+        (without_named format_name name.now formats.old.items) formats.old.items formats.new.items }
+{
+    let Admitted {
+        session,
+        remarks,
+        ..
+    } = admitted;
+    let told = told_of(alloc, name, session)?;
+    let made = make_listing(alloc, name, only, parts, told, formats)?;
+    Ok(Writing {
+        output: Output::Listing(made),
+        remarks,
+    })
+}
+
+// What a listing tells of a session: its revisions, the verdicts on them, and their details where the format shows them.
+#[derive(Drop)]
+struct Told {
+    index: Index,
+    verdicts: Vec<Verdict>,
+    details: Vec<Detail>,
+}
+
+// The same for the format with this name. The nodes go before the rows come, so that they aren't in memory together.
+fn told_of(alloc: Global, name: &str, session: Session) -> Result<Told, AllocError>
+    ensures index { IfOk result (λ told. told.index ≡ session.entry.revisions) }
+    ensures verdicts { IfOk result (λ told. told.verdicts.items ≡ session_verdicts session.entry) }
+    ensures details { IfOk result (λ told. told.details.items ≡ session_details name.now session.entry) }
+    ensures utf8 { IfOk result (λ told. All IsDetail told.details.items) }
+{
+    let verdicts = session.verdicts()?;
+    let details = session_details(alloc, name, &session)?;
+    Ok(Told {
+        index: session.into_index(),
+        verdicts,
+        details,
+    })
+}
+
+// The listing of what is shown of this, in the format with this name, if there is one.
+fn make_listing(
+    alloc: Global,
+    name: &str,
+    only: &[Only],
+    parts: &[Text],
+    told: Told,
+    formats: &mut Vec<Box<dyn RowFormat>>,
+) -> Result<Vec<u8>, AllocError>
+    requires utf8 { All IsUtf8 parts.now }
+    requires parts { All (λ revision. revision.part < length parts.now) told.index }
+    requires verdicts { length told.verdicts.items ≡ length told.index }
+    requires details { All IsDetail told.details.items }
+    requires fresh { AreFresh is_closed rows_so_far formats.old.items }
+    ensures made { IfOk result (λ made. (found : Bool) × IsListed (first_named format_name name.now formats.old.items)
+        (λ format. text_for format (shown_rows (shown_revisions (onlys_view only.now) told.index told.verdicts.items) (told_rows parts.now told.index told.verdicts.items told.details.items)) true)
+        found made.items) }
+    ensures taken { OnOk result (formats.new.items ≡ without_named format_name name.now formats.old.items) }
+    ensures left { OnErr result ((formats.new.items ≡ formats.old.items) ⊎ (formats.new.items ≡ without_named format_name name.now formats.old.items)) }
+{
+    let Told {
+        index,
+        verdicts,
+        details,
+    } = told;
+    let shown = shown_revisions(alloc, only, index.revisions(), &verdicts)?;
+    let mut made = Vec::new(alloc);
+    let _ = list_told(
+        alloc, formats, name, parts, &index, &verdicts, details, &shown, &mut made,
+    )?;
+    Ok(made)
+}
+
+// The details of a session's revisions, where the format with this name shows them. The nodes are needed for them.
+fn session_details(alloc: Global, name: &str, session: &Session) -> Result<Vec<Detail>, AllocError>
+    ensures value { IfOk result (λ details. details.items ≡ session_details name.now session.now) }
+    ensures utf8 { IfOk result (λ details. All IsDetail details.items) }
+{
+    if !shows_details(name) {
+        return Ok(Vec::new(alloc));
+    }
+    let details = package_details(alloc, session.package(), session.index(), session.book())?;
+    Ok(details)
+}
+
+// Whether the format with this name shows details.
+fn shows_details(name: &str) -> bool
+    ensures { result ≡ shows_details name.now }
+{
+    name == "words" || name == "full"
+}

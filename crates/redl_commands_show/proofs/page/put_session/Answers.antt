@@ -1,0 +1,35 @@
+use Rattle.std.proofs.Common.{◌∙◌, Err, Ok, ap, length, refl, subst, sym}
+use Rattle.redl_commands_show.proofs.PageLaws.{same_shown}
+use Rattle.redl_commands_shown.specs.Page.{shown_of}
+use Rattle.redl_commands.specs.Endings.{Finishes}
+use Rattle.redl_lines.specs.Ends.{end_view}
+use Rattle.redl_lines.specs.Failures.{no_memory}
+use Rattle.redl_lines.specs.Remarks.{remarks_view}
+use Rattle.redl_page.specs.Page.{Shown, page_text}
+use Rattle.redl_page.specs.PageViews.{heading_view, skin_view}
+use Rattle.redl_commands_show.proofs.page.put_session.Goals as goal
+
+pub put_shown-requires-clause-locked : goal.put_shown-requires-clause-locked
+put_shown-requires-clause-locked g c = c.requires ∙ sym (ap length c.index.ensures)
+
+pub returns-in_default : goal.returns-in_default
+returns-in_default g c = record {
+  made = Err no_memory;
+  reads = record { as_due = λ reader reads. tt; never_unread = tt };
+  finishes = (refl, refl, refl);
+}
+
+pub returns : goal.returns
+returns g c = record {
+  made = Ok (record {
+    bytes = page_text (skin_view c.args.skin.now) (shown_of c.args.session.now c.args.locked.now c.args.digest.now (heading_view c.args.heading));
+    remarks = remarks_view c.args.remarks;
+  });
+  reads = record { as_due = λ reader reads. refl; never_unread = tt };
+  finishes = subst
+      (λ (shown : Shown). Finishes g.O.Sink.told g.O.Sink.faults c.args.out.now c.put_shown.new.out
+      (Ok (record { bytes = page_text (skin_view c.args.skin.now) shown; remarks = remarks_view c.args.remarks })) (end_view c.put_shown.result))
+      (same_shown c.package.result.now c.args.session.now.nodes c.index.result.now c.args.session.now.revisions c.args.locked.now c.book-2.result.now c.args.session.now.book
+      c.args.digest.now (heading_view c.args.heading) c.package.ensures c.index.ensures c.book-2.ensures)
+      c.put_shown.ensures;
+}

@@ -1,6 +1,0 @@
-use Rattle.std.proofs.Common.{◌∙◌}
-use Rattle.redl_show_commands.proofs.LockLaws.{held_is_locked}
-use Rattle.redl_show_commands.proofs.page.is_locked.Goals as goal
-
-pub returns : goal.returns
-returns c = c.any_holds.ensures ∙ held_is_locked c.args.locks.now c.args.revision.now
