@@ -89,12 +89,17 @@ def for_readers(driven):
     told("with names", all(name for _, name in steps), str(steps))
     for step in STEPS:
         it.step(step)
+        it.run("document.querySelectorAll('main details').forEach((it) => (it.open = true))")
+        it.after()
         bare = [role for role, name in driven.spoken("#%s :is(button, select, input, iframe):not([hidden])" % step) if not name and role not in ("none", "generic")]
         same("each control of %s has a name" % step, bare, [])
     same("the page says what it is", it.run("return document.title"), "contract.xml - Redline")
 
 
 def printed(driven):
+    if driven.name == "webkit":
+        # (its driver has no paper)
+        return
     it = contract(driven)
     it.step("standing")
     driven.look(1280, 800, "light", "print")
