@@ -2,7 +2,7 @@
 
 /// The security policy of the page: its own style and script alone, and nothing is ever fetched.
 pub const POLICY: &str =
-    "default-src 'none'; script-src 'sha256-MePxmD9QQeh1Wgutd1cO3GpGgR49vRZdwQTDKB3+hLY='; style-src 'sha256-wFpCensai3EXyEzlIyN5d71ZIaFWWOrRUDUH2FLgxeo='; base-uri 'none'; form-action 'none'; require-trusted-types-for 'script'; trusted-types 'none'";
+    "default-src 'none'; script-src 'sha256-MePxmD9QQeh1Wgutd1cO3GpGgR49vRZdwQTDKB3+hLY='; style-src 'sha256-CxcpslcO+4WZnmyJEiCEgQPtx9dV6DWkjHf9ExhkwgA='; base-uri 'none'; form-action 'none'; require-trusted-types-for 'script'; trusted-types 'none'";
 
 /// The style sheet of the page.
 pub const STYLE: &str = "/* colours, and what all elements share */
@@ -98,7 +98,7 @@ td > p:last-child { margin: 0; }
 .copy { max-width: 48rem; margin: 0 auto 1.5rem; padding: .8rem 1.2rem; border: 2px solid var(--no); border-radius: 3px; background: var(--paper); }
 /* until all is there, only the first blocks of a story have to be laid out */
 @media (scripting: enabled) {
-  body:not([data-view]) :is(section, tbody) > :nth-child(n + 200), body:not([data-view]) aside { display: none; }
+  body:not([data-view]) section > :nth-child(n + 200), body:not([data-view]) tbody > :nth-child(n + 200), body:not([data-view]) aside { display: none; }
 }
 main details { border-left: 2px solid var(--rule); padding-left: .6rem; }
 main summary { font: .8rem/1.6 system-ui, \"Liberation Sans\", sans-serif; color: var(--soft); }
