@@ -69,12 +69,21 @@ def some_words(count, draw):
 
 
 def read_the_same(program, one, other):
-    """Whether two packages have the same bare text, but for the order of headers and footers."""
+    """Whether two packages have the same bare text, but for the order of headers and footers, and of two marks with one sign.
+
+    (Such marks come in the order of the bytes of their names, and a name may be written with references or without.)
+    """
     kept = []
     for data in (one, other):
-        texts = {kind: [story.text for story in found] for kind, found in bare.stories_of(program.bare_text(data)).items()}
+        found = bare.stories_of(program.bare_text(data)).items()
+        texts = {kind: [[marks_sorted(line) for line in story.text.split("\n")] for story in stories] for kind, stories in found}
         kept.append({kind: sorted(found) if kind in ("header", "footer") else found for kind, found in texts.items()})
     return kept[0] == kept[1]
+
+
+def marks_sorted(line):
+    marks, rest = bare.marks_of(line)
+    return sorted(marks), rest
 
 
 class Pairs:
