@@ -23,7 +23,7 @@ STACK_POINTER = b"\x7e\x01\x42"
 # In so many pages of 64 KB a document of 2.5 MB opens, but not one of 5: that is checked, and then there is too little for its page.
 PAGES = 270
 # With so many bytes of stack the example is decided, but a document nested 512 deep isn't read.
-STACK = 32768
+STACK = 131072
 TOO_DEEP = "more tables in one another than this browser can follow"
 
 
