@@ -13,10 +13,12 @@ use redl_io::{Failed, Sink, put_piece, put_pieces};
 use redl_marks::{Marks, Stamp};
 use redl_tree::Kind;
 
-/// The line of texts that is open, if one is, with the marks of its texts.
+/// The line of texts.
 #[derive(Drop)]
 pub(crate) struct Line<'a> {
+    /// Whether a line is open.
     pub is_open: bool,
+    /// The marks of its texts.
     pub marks: Marks<'a>,
 }
 

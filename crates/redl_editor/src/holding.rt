@@ -16,6 +16,7 @@ use std::alloc::{AllocError, Global};
 /// A leaf that holds a member or a marker of a revision.
 #[derive(Clone, Copy)]
 pub(crate) struct Held {
+    /// The number of the revision.
     pub rev: u32,
     /// The number of the leaf, from 0 in the order of the text.
     pub leaf: u32,

@@ -24,13 +24,16 @@ use std::alloc::{AllocError, Global};
 // For how many bytes a line takes room at first.
 const USUAL_LINE: usize = 400;
 
-/// Where nodes stand, but for their place in the line: in an element that holds text or not; what the nearest ancestor holds
-/// that is no properties, and where that begins; and the whole line.
+/// Where nodes stand, but for their place in the line.
 #[derive(Clone, Copy)]
 pub(crate) struct Here<'a, 'n> {
+    /// Whether they are in an element that holds text.
     pub(crate) in_text: bool,
+    /// The kids of the nearest ancestor that is no element of properties.
     pub(crate) owner: &'a [Node<'n>],
+    /// Where these begin in the line.
     pub(crate) owner_place: Place,
+    /// The whole line.
     pub(crate) whole: &'a [u8],
 }
 

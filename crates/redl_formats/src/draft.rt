@@ -4,12 +4,15 @@ ghost use Rattle.std.specs.Prelude.{◌≡◌, ◌+◌, ◌≤◌, ◌++◌, ◌
 
 use std::alloc::{AllocError, Global};
 
-/// The items that a format was given, the text so far, and whether it was closed. No code reads the items: a format keeps them so
-/// that `rows_so_far` and `lines_so_far` of its clauses have a value.
+/// What a format was given. No code reads the items: a format keeps them so that `rows_so_far` and `lines_so_far` of its clauses
+/// have a value.
 #[derive(Drop)]
 pub(crate) struct Draft<I> {
+    /// The items so far.
     pub(crate) items: Vec<I>,
+    /// The text that was made of them.
     pub(crate) text: Vec<u8>,
+    /// Whether the format was closed.
     pub(crate) closed: bool,
 }
 

@@ -20,12 +20,14 @@ use redl_moves::Start;
 use redl_tree::{Elem, Kind};
 use std::alloc::{AllocError, Global};
 
-/// The revisions that are found in the stories, and the numbers of the moves of the present story, by the positions of their source
-/// starts.
+/// What is found in the stories so far.
 #[derive(Drop)]
 pub(crate) struct Found {
+    /// The allocator of the lists.
     pub(crate) alloc: Global,
+    /// The revisions.
     pub(crate) index: Index,
+    /// The numbers of the moves of the present story, by the positions of their source starts.
     pub(crate) moves: IndexMap<u64, u32>,
 }
 

@@ -54,11 +54,14 @@ pub(crate) fn label_stories(pkg: &mut Package, known: Vec<StoryFacts>) -> u32
     left.next - 1
 }
 
-/// What is known of the stories, the place of the next one to be labelled, and the next number.
+/// What is left to label.
 #[derive(Drop)]
 pub(crate) struct ToLabel<'a> {
+    /// What is known of the stories.
     pub(crate) stories: Vec<StoryFacts<'a>>,
+    /// The place of the next story to be labelled.
     pub(crate) place: usize,
+    /// The next number.
     pub(crate) next: u32,
 }
 
@@ -119,8 +122,11 @@ fn label_story(known: &mut StoryFacts<'_>, root: &mut Elem, next: u32) -> u32
 /// Gives the elements of a story their kinds and numbers. What is handed down is where the nearest paragraph ends.
 #[derive(Drop)]
 pub(crate) struct Numberer<'s> {
+    /// The moves of the story.
     pub(crate) moves: &'s Moves,
+    /// How far the walk is.
     pub(crate) walk: Walk<'s>,
+    /// The numbers that its moves have so far, and the next one.
     pub(crate) numbers: Numbers,
 }
 

@@ -7,11 +7,12 @@ ghost use Rattle.redl_index.specs.Inside.Numberings.{numbers_view, one_given, nu
 use crate::story::Sight;
 use redl_tree::Kind;
 
-/// The next number, and the numbers that the moves of a story have so far, each at the place of its source's start among the
-/// markers. 0 stands for no number.
+/// The numbers of a story so far.
 #[derive(Drop)]
 pub(crate) struct Numbers {
+    /// The next number.
     pub(crate) next: u32,
+    /// The number of each move, at the place of its source's start among the markers. 0 stands for none.
     pub(crate) moves: Vec<u32>,
 }
 

@@ -16,18 +16,23 @@ use redl_moves::{Moves, Side, Start};
 use redl_stamp::has_attribute;
 use redl_tree::{Around, Elem, Kind, Trace, is_range_edge};
 
-/// A story whose markers are known: the number of its part, its moves, and the attributes of its markers.
+/// A story whose markers are known.
 #[derive(Clone, Copy)]
 pub(crate) struct Story<'s, 'a> {
+    /// The number of its part.
     pub(crate) part: u32,
+    /// Its moves.
     pub(crate) moves: &'s Moves,
+    /// The attributes of its markers.
     pub(crate) tails: &'s [&'a [u8]],
 }
 
-/// The kind of an element, and where the move starts that it is in.
+/// What an element is in its story.
 #[derive(Clone, Copy, Debug, PartialEq, Eq)]
 pub(crate) struct Sight {
+    /// Its kind.
     pub(crate) kind: Kind,
+    /// Where the move starts that it is in.
     pub(crate) start: Option<Start>,
 }
 

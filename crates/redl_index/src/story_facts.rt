@@ -15,13 +15,16 @@ use redl_opc::Package;
 use redl_tree::Elem;
 use std::alloc::{AllocError, Global};
 
-/// What is known of a story: its moves, the attributes of its markers, where its paragraphs end, and the numbers that its moves have
-/// so far.
+/// What is known of a story.
 #[derive(Drop)]
 pub(crate) struct StoryFacts<'a> {
+    /// Its moves.
     pub(crate) moves: Moves,
+    /// The attributes of its markers.
     pub(crate) tails: Vec<&'a [u8]>,
+    /// Where its paragraphs end.
     pub(crate) ends: Vec<u64>,
+    /// The numbers that its moves have so far.
     pub(crate) numbers: Numbers,
 }
 

@@ -6,11 +6,12 @@ ghost use Rattle.redl_index.specs.Inside.Sights.{next_end, ends_after};
 
 use redl_tree::{Elem, Word, is_word};
 
-/// How far a walk of a story is: the position of the next tag, and the positions at which the paragraphs end that start from
-/// there on, in the order of their start tags.
+/// How far a walk of a story is.
 #[derive(Clone, Copy)]
 pub(crate) struct Walk<'a> {
+    /// The position of the next tag.
     pub(crate) at: u64,
+    /// The positions at which the paragraphs end that start from there on, in the order of their start tags.
     pub(crate) ends: &'a [u64],
 }
 

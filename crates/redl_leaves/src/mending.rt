@@ -11,10 +11,12 @@ use crate::slots::{Container, Slot, Tally};
 use crate::spot::Spot;
 use redl_tree::{Elem, Word, is_word};
 
-/// How many living rows or cells a slot adds to the container round it, before and after a change.
+/// How many living rows or cells a slot adds to the container round it.
 #[derive(Clone, Copy)]
 pub(crate) struct Shift {
+    /// Before a change.
     pub before: u32,
+    /// After it.
     pub after: u32,
 }
 

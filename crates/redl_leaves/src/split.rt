@@ -26,11 +26,14 @@ use redl_tree::{Elem, Node, Word, is_thick, is_word};
 use std::alloc::{AllocError, Global};
 use std::mem;
 
-/// What is split of a list so far: the slots, a chain of paragraphs that waits, and the thin nodes after it.
+/// What is split of a list so far.
 #[derive(Drop)]
 pub(crate) struct Splitting<'a> {
+    /// The slots.
     pub slots: Vec<Slot<'a>>,
+    /// The chain of paragraphs that waits.
     pub chain: Option<Vec<Node<'a>>>,
+    /// The thin nodes after it.
     pub tail: Vec<Node<'a>>,
 }
 

@@ -20,12 +20,16 @@ use redl_stamp::{attribute, has_attribute};
 use redl_tree::{Kind, Prop, Space, Trace};
 use std::alloc::{AllocError, Global};
 
-// What an element is, as far as rows ask: its namespace, its local name and its tail, and the local name of its parent.
+// What rows ask of an element.
 #[derive(Clone, Copy)]
 pub(crate) struct Asked<'a> {
+    /// The local name of its parent.
     pub(crate) parent: &'a [u8],
+    /// Its namespace.
     pub(crate) space: Space,
+    /// Its local name.
     pub(crate) local: &'a [u8],
+    /// Its tail: all between its name and its `>`.
     pub(crate) tail: &'a [u8],
 }
 

@@ -3,7 +3,8 @@
 ghost use Rattle.std.specs.Prelude.{◌≡◌};
 ghost use Rattle.redl_left.specs.Names.{name_text};
 
-/// A name of an element or of an attribute, or what an attribute has as its value.
+/// A name of an element or of an attribute, or what an attribute has as its value. A variant is spelled like its text, if it has no
+/// line of its own.
 #[derive(Clone, Copy, Debug, PartialEq, Eq)]
 pub enum Name {
     NumberingChange,
@@ -63,19 +64,26 @@ pub enum Name {
     People,
     Person,
     Property,
+    /// The attribute `name`.
     Called,
     DocVar,
     MailMerge,
     Relationships,
     Relationship,
     TargetMode,
+    /// The value of `TargetMode` of a relationship that leads out of the package.
     External,
     Target,
+    /// How names of parts with embedded objects begin.
     Embeddings,
     ContentType,
+    /// How the content type of macros begins.
     VbaProject,
+    /// The content type of data of macros.
     VbaData,
+    /// The content type of an OLE object.
     OleObject,
+    /// How names of parts with custom XML begin.
     CustomXmlFolder,
 }
 

@@ -10,15 +10,17 @@ use crate::line::Line;
 use std::alloc::{AllocError, Global};
 use std::collections::BTreeMap;
 
-/// The values that are named for each fact, in the order of the facts.
+/// What names comments, notes and authors.
 #[derive(Drop)]
 pub(crate) struct Named<'a> {
+    /// The values that are named for each fact, in the order of the facts.
     pub(crate) tables: Vec<Values<'a>>,
 }
 
 /// Different values.
 #[derive(Drop)]
 pub(crate) struct Values<'a> {
+    /// The values are its keys.
     pub(crate) places: BTreeMap<&'a [u8], ()>,
 }
 

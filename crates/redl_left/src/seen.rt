@@ -9,10 +9,12 @@ use crate::line::Line;
 use crate::notes::note;
 use std::alloc::{AllocError, Global};
 
-/// The lines of each fact, in the order of the facts.
+/// What was found so far.
 #[derive(Drop)]
 pub(crate) struct Seen {
+    /// The allocator of the lines.
     pub(crate) alloc: Global,
+    /// The lines of each fact, in the order of the facts.
     pub(crate) tables: Vec<Vec<Line>>,
 }
 

@@ -19,10 +19,12 @@ use redl_idle::{Shows, show};
 use redl_tree::{Elem, Kind, Node, Plain, Space};
 use std::alloc::AllocError;
 
-/// What is asked of elements, and the name of the part in which nodes are.
+/// What a walk carries down.
 #[derive(Clone, Copy)]
 pub(crate) struct Below<'p, 's, 'n> {
+    /// What is asked of elements.
     pub(crate) search: &'s Search<'n>,
+    /// The name of the part in which the nodes are.
     pub(crate) part: &'p [u8],
 }
 

@@ -79,7 +79,9 @@ fn write_staged<K: Sink>(editor: &Editor, out: &mut K) -> Result<(), Failed> {
 /// Why a package was not written.
 #[derive(Clone, Copy, Debug, PartialEq, Eq)]
 pub(crate) enum Stopped {
+    /// An allocation failed.
     NoMemory,
+    /// The output took no more bytes.
     OutputFailed,
 }
 

@@ -13,7 +13,9 @@ use std::alloc::{AllocError, Global};
 /// What markers are looked up by.
 #[derive(Clone, Copy, Debug, PartialEq, Eq)]
 pub(crate) enum Key {
+    /// The id, which a start and its end share.
     Id,
+    /// The name, which the two ranges of a move share.
     Name,
 }
 

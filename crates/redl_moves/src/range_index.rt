@@ -11,17 +11,21 @@ use crate::marker::{Edge, Marker};
 use crate::marker_index::{Key, MarkerIndex};
 use std::alloc::{AllocError, Global};
 
-/// The places of a start and its end.
+/// A range, as the places of its markers.
 #[derive(Clone, Copy, Debug, PartialEq, Eq)]
 pub(crate) struct Span {
+    /// The place of its start.
     pub(crate) start: u32,
+    /// The place of its end.
     pub(crate) end: u32,
 }
 
-/// The ranges that content moved from in a story, and those that it moved to.
+/// The ranges of moves in a story.
 #[derive(Drop)]
 pub(crate) struct RangeIndexes<'a> {
+    /// Those that content moved from.
     pub(crate) source: RangeIndex<'a>,
+    /// Those that content moved to.
     pub(crate) target: RangeIndex<'a>,
 }
 

@@ -5,10 +5,12 @@ ghost use Rattle.std.specs.Str.{IsUtf8};
 
 use redl_io::Text;
 
-/// A part: its place among the kids of the root, and its decoded name.
+/// A part of a package.
 #[derive(Drop)]
 pub(crate) struct Part {
+    /// Its place among the kids of the root.
     pub(crate) place: usize,
+    /// Its decoded name.
     pub(crate) name: Text,
     ghost utf8: { ∥ IsUtf8 name ∥₁ },
 }

@@ -13,10 +13,12 @@ use redl_io::Text;
 use redl_tree::{Elem, Node, Plain, Space};
 use std::alloc::{AllocError, Global};
 
-/// The references so far.
+/// What was found so far.
 #[derive(Drop)]
 pub(crate) struct Seen {
+    /// The allocator of the list.
     pub(crate) alloc: Global,
+    /// The references, in the order of the text.
     pub(crate) references: Vec<Reference>,
 }
 

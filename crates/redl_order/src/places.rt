@@ -12,10 +12,12 @@ use redl_tree::Elem;
 use std::alloc::{AllocError, Global};
 use std::collections::BTreeMap;
 
-/// Notes by their ids. Those with the same one keep their order.
+/// Notes by their ids.
 #[derive(Drop)]
 pub(crate) struct Places<'n, 'a> {
+    /// The allocator of the lists.
     pub(crate) alloc: Global,
+    /// The notes with each id, in the order of the text.
     pub(crate) notes: BTreeMap<&'n [u8], Vec<&'n Elem<'a>>>,
 }
 

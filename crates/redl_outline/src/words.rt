@@ -5,15 +5,20 @@ use std::alloc::{AllocError, Global};
 /// A node without what it holds.
 #[derive(Drop)]
 pub(crate) enum Item {
+    /// The start tag of an element.
     Start(Start),
+    /// A text between tags.
     Bytes(String),
 }
 
-/// All between `<` and `>` of a start tag, and how many bytes its prefix has, and its name with prefix and colon.
+/// A start tag.
 #[derive(Drop)]
 pub(crate) struct Start {
+    /// All between its `<` and its `>`.
     pub(crate) text: String,
+    /// How many bytes its prefix has.
     pub(crate) prefix: usize,
+    /// How many bytes its name has, with prefix and colon.
     pub(crate) name: usize,
 }
 

@@ -24,7 +24,9 @@ const NONE: Emphasis = Emphasis {
 /// How a run is set, or what some properties of runs switch on.
 #[derive(Clone, Copy)]
 pub(crate) struct Emphasis {
+    /// Bold.
     pub bold: bool,
+    /// Italic.
     pub italic: bool,
 }
 
@@ -152,11 +154,14 @@ pub(crate) fn is_off(value: &[u8]) -> bool
     value == b"0".as_slice() || value == b"false".as_slice() || value == b"off".as_slice()
 }
 
-// Where nodes are in a run: its kids, those in its properties, or below these.
+// Where nodes are in a run.
 #[derive(Clone, Copy)]
 enum Level {
+    /// Its kids.
     Kids,
+    /// Those in its properties.
     Properties,
+    /// Those below these.
     Below,
 }
 

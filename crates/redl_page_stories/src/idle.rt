@@ -14,10 +14,12 @@ use redl_idle::{Shows, show};
 use redl_io::{Failed, Sink, put_piece};
 use redl_tree::Plain;
 
-/// What is round some idle nodes: their place, and what their parent is shown as.
+/// What is round some idle nodes.
 #[derive(Clone, Copy)]
 pub(crate) struct Within {
+    /// Where they stand.
     pub place: Place,
+    /// What their parent is shown as.
     pub shape: Shape,
 }
 

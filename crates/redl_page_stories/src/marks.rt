@@ -13,11 +13,14 @@ use redl_index::Index;
 use redl_io::{Failed, Sink};
 use redl_tree::{Elem, Kind, Node, Word, is_word};
 
-/// Where nodes are in a paragraph: its kids, those in its properties, or those in the run properties of these.
+/// Where nodes are in a paragraph.
 #[derive(Clone, Copy, Debug, PartialEq, Eq)]
 pub(crate) enum Depth {
+    /// Its kids.
     Kids,
+    /// Those in its properties.
     Properties,
+    /// Those in the run properties of its mark.
     RunProperties,
 }
 

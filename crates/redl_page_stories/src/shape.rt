@@ -17,22 +17,33 @@ use redl_tree::{Elem, Node, Space, Word, is_word};
 pub(crate) enum Shape {
     /// It shows nothing of its own.
     Nothing,
+    /// A paragraph of text.
     Paragraph,
     /// A paragraph that holds blocks, which a `p` of HTML can't.
     Division,
+    /// A table.
     Table,
+    /// A row of a table.
     Row,
+    /// A cell of a row.
     Cell,
     /// What a text box holds.
     TextBox,
     /// A run, by how it is set.
     Bold,
+    /// A run in italics.
     Italic,
+    /// A run in bold italics.
     BoldItalic,
+    /// A tabulator.
     Tab,
+    /// A break of a line, a column or a page.
     Break,
+    /// A hyphen at which no line breaks.
     Hyphen,
+    /// A character of a font of symbols.
     Symbol,
+    /// A picture, a drawing or an object.
     Picture,
     /// A reference to a note.
     Reference,

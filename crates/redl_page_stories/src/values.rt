@@ -41,13 +41,16 @@ fn has_local_name(attribute: &Attribute<'_>, local: &[u8]) -> bool
     attribute.name.local == local && attribute.name.prefix != b"xmlns".as_slice()
 }
 
-/// A property whose value a page shows: of a paragraph its style and its direction, of a cell the columns that it spans, and whether
-/// it is merged with those above or below.
+/// A property whose value a page shows.
 #[derive(Clone, Copy, Debug, PartialEq, Eq)]
 pub(crate) enum Property {
+    /// A paragraph's style.
     Style,
+    /// A paragraph's direction.
     Direction,
+    /// The number of columns that a cell spans.
     Span,
+    /// Whether a cell is merged with those above or below.
     Merge,
 }
 

@@ -8,11 +8,14 @@ use redl_page::Skin;
 use redl_words::add_word;
 use std::alloc::{AllocError, Global};
 
-/// What a call came to: its status, what was written, and the lines on standard error.
+/// What a call came to.
 #[derive(Drop)]
 pub(crate) struct Answer {
+    /// Its status.
     pub status: Status,
+    /// What was written.
     pub written: MemSink,
+    /// The lines on standard error.
     pub lines: MemSink,
 }
 

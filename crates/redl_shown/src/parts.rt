@@ -10,17 +10,24 @@ use redl_reading::skip;
 /// What a byte is in.
 #[derive(Clone, Copy, Debug, PartialEq, Eq)]
 pub(crate) enum Part {
+    /// Characters that are shown as they are.
     Characters,
+    /// A reference to a character, as `&amp;`.
     Reference,
+    /// A comment, which shows nothing.
     Comment,
+    /// A processing instruction, which shows nothing.
     Instruction,
+    /// A CDATA section, whose characters are shown as they are.
     Cdata,
 }
 
-/// What the next byte is in, and how many bytes of an opening or of an ending come before it.
+/// What comes next.
 #[derive(Clone, Copy, Debug)]
 pub struct Here {
+    /// What the next byte is in.
     pub(crate) part: Part,
+    /// How many bytes of an opening or of an ending come before it.
     pub(crate) skip: u32,
 }
 

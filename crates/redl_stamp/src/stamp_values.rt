@@ -12,9 +12,13 @@ use redl_markup::{Attribute, next_attribute};
 /// The values of a stamp, as they are written. Each is that of the first attribute with its name.
 #[derive(Clone, Copy)]
 pub(crate) struct Written<'a> {
+    /// Of the attribute `author`.
     pub(crate) author: Option<&'a [u8]>,
+    /// Of the attribute `date`.
     pub(crate) date: Option<&'a [u8]>,
+    /// Of the attribute `name`.
     pub(crate) name: Option<&'a [u8]>,
+    /// Of the attribute `id`.
     pub(crate) id: Option<&'a [u8]>,
 }
 

@@ -6,7 +6,7 @@ ghost use Rattle.redl_tree.specs.Roles.Words.{number, place, number_by_place, nu
 
 use crate::kinds::Space;
 
-/// A local name of WordprocessingML that some definition asks for.
+/// A local name of WordprocessingML that some definition asks for. A variant is spelled like its name.
 #[derive(Clone, Copy, Debug, PartialEq, Eq)]
 pub enum Word {
     P = 1,

@@ -20,13 +20,21 @@ use std::str;
 /// What the items of a command say.
 #[derive(Drop)]
 pub(crate) struct Items {
+    /// `--format`: the name of the format.
     pub format: Option<Text>,
+    /// `--by kind`: whether a report counts kind by kind.
     pub by_kind: bool,
+    /// `--lock` and its like: what is locked.
     pub locks: Vec<Lock>,
+    /// The names of the journals.
     pub journals: Vec<Text>,
+    /// `--accept` and its like: what is decided on which revisions.
     pub choices: Vec<(Word, Selection)>,
+    /// `--rank`: the reviewer's rank.
     pub rank: Option<u8>,
+    /// `--only`: which revisions are shown.
     pub only: Vec<Only>,
+    /// `--title`: the title of the document.
     pub title: Option<Text>,
 }
 

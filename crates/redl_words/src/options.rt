@@ -8,32 +8,47 @@ use redl_journal::Word;
 /// The commands that have items: the package's name, and for `decide` the reviewer, are followed by options and journals.
 #[derive(Clone, Copy)]
 pub(crate) enum Form {
+    /// `list`.
     List,
+    /// `report`.
     Report,
+    /// `page`.
     Page,
+    /// `write`.
     Write,
+    /// `decide`.
     Decide,
 }
 
 /// What a lock is on.
 #[derive(Clone, Copy)]
 pub(crate) enum Locked {
+    /// The revisions by an author.
     Author,
+    /// Those of a kind.
     Kind,
+    /// Those with the numbers of a span.
     Span,
 }
 
-/// What an option says of the word after it: the name of a format, by what a report counts, what is locked, the name of a
-/// journal, what the reviewer decides on a selection, the reviewer's rank, which revisions are shown, or the document's title.
+/// What an option says of the word after it.
 #[derive(Clone, Copy)]
 pub(crate) enum ItemOption {
+    /// It is the name of a format.
     Format,
+    /// It says by what a report counts.
     By,
+    /// It is what is locked.
     Lock(Locked),
+    /// It is the name of a journal.
     Journal,
+    /// It is a selection, on which the reviewer decides this.
     Choice(Word),
+    /// It is the reviewer's rank.
     Rank,
+    /// It is a selection of the revisions that are shown.
     Only,
+    /// It is the title of the document.
     Title,
 }
 

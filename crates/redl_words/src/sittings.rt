@@ -11,10 +11,12 @@ use crate::names::{add_copy, is_file_name};
 use redl_io::Text;
 use std::alloc::Global;
 
-/// The names of the journals of the first package, and of those of the second one.
+/// The names of the journals of two packages.
 #[derive(Drop)]
 pub(crate) struct Sittings {
+    /// Those of the first package.
     pub firsts: Vec<Text>,
+    /// Those of the second one.
     pub seconds: Vec<Text>,
 }
 

@@ -6,17 +6,29 @@ ghost use Rattle.redl_words.specs.Reading.Commands.{verb_in};
 /// Which command the words ask for.
 #[derive(Clone, Copy)]
 pub(crate) enum Verb {
+    /// Decides all revisions one way.
     Settle,
+    /// Shows the plain text.
     Text,
+    /// Tells what the document still holds that a reader does not see.
     Left,
+    /// Lists the revisions.
     List,
+    /// Counts where reviewers and authors stand.
     Report,
+    /// Shows the document as a page.
     Page,
+    /// Writes the document with the journals applied.
     Write,
+    /// Writes entries for a reviewer.
     Decide,
+    /// Joins the journals of two sittings.
     Resume,
+    /// Joins journals.
     Join,
+    /// Tells whether the package is sound.
     Check,
+    /// Makes a sample and sums it up.
     Sample,
 }
 

@@ -26,13 +26,16 @@ use std::mem;
 // A package, a part, its data, and the root in that.
 const UPPER_LEVELS: usize = 4;
 
-/// The open elements with the nodes before each of them, the innermost last, the nodes so far in that one, and the
-/// declarations in its scope. Where nodes were dropped, the outer elements have no list of those before them.
+/// The tree so far. Where nodes were dropped, the outer elements have no list of those before them.
 #[derive(Drop)]
 pub(crate) struct Building<'a> {
+    /// The open elements, the innermost last.
     pub(crate) open: Vec<OpenElement<'a>>,
+    /// The nodes before each of them.
     before: Vec<Vec<Node<'a>>>,
+    /// The nodes so far in the innermost one.
     pub(crate) kids: Vec<Node<'a>>,
+    /// The declarations in its scope.
     scopes: Spaces<'a>,
 }
 

@@ -19,11 +19,14 @@ use redl_markup::{MarkupError, Name, Piece, next_piece};
 use redl_tree::Node;
 use std::alloc::{AllocError, Global};
 
-/// An element that was read, and the bytes after it. Past a limit there are no nodes.
+/// An element that was read.
 #[derive(Drop)]
 pub(crate) struct Element<'a> {
+    /// The element alone; nothing past a limit.
     pub(crate) nodes: Vec<Node<'a>>,
+    /// How deep it goes, and how many nodes it has.
     pub(crate) sizes: Sizes,
+    /// The bytes after it.
     pub(crate) rest: &'a [u8],
 }
 

@@ -18,27 +18,34 @@ use redl_markup::{MarkupError, Name, Piece, StartTag, next_piece};
 use redl_tree::{Plain, Space, is_idle_name};
 use std::alloc::{AllocError, Global};
 
-/// What was passed over: the bytes after it, its numbers of nodes and of elements, and how deep it goes.
+/// What was passed over.
 #[derive(Clone, Copy)]
 pub(crate) struct Idle<'a> {
+    /// The bytes after it.
     pub(crate) rest: &'a [u8],
+    /// How many nodes it has.
     pub(crate) nodes: usize,
+    /// How many elements it has.
     pub(crate) elems: usize,
+    /// How deep it goes.
     pub(crate) deepest: usize,
 }
 
-/// Where a try to pass over nodes ended: what was passed over, if anything was, and the piece behind that with the bytes after the
-/// piece, if it was read.
+/// Where a try to pass over nodes ended.
 #[derive(Drop)]
 pub(crate) struct Tried<'a> {
+    /// What was passed over, if anything was.
     pub(crate) idle: Option<Idle<'a>>,
+    /// The piece after that with the bytes after the piece, if it was read.
     pub(crate) next: Option<(Piece<'a>, &'a [u8])>,
 }
 
 /// The same, with what a list of nodes keeps of what was passed over.
 #[derive(Drop)]
 pub(crate) struct Passed<'a> {
+    /// What a list keeps of what was passed over, and how much that was.
     pub(crate) text: Option<(Plain<'a>, Idle<'a>)>,
+    /// The piece after that with the bytes after the piece, if it was read.
     pub(crate) next: Option<(Piece<'a>, &'a [u8])>,
 }
 

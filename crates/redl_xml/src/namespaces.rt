@@ -207,10 +207,12 @@ pub(crate) fn are_plain<'a>(scopes: &Spaces<'a>, own: &'a [u8], names: &[Name<'a
     true
 }
 
-/// An element that was entered: its space, and the number of its declarations.
+/// An element that was entered.
 #[derive(Clone, Copy)]
 pub(crate) struct Entered {
+    /// Its namespace.
     pub(crate) space: Space,
+    /// How many declarations its start tag has.
     pub(crate) declared: usize,
 }
 

@@ -5,10 +5,12 @@ ghost use Rattle.redl_tree.specs.declared.kinds.Kind.TheVariants.{Plain};
 
 use redl_tree::Tag;
 
-/// An open element: its start tag, and how many declarations that has. It is in no revision.
+/// An open element. It is in no revision.
 #[derive(Drop)]
 pub(crate) struct OpenElement<'a> {
+    /// Its start tag.
     pub(crate) start: Tag<'a>,
+    /// How many declarations that has.
     pub(crate) declared: usize,
     ghost kind: { start.kind ≡ Plain },
     ghost rev: { start.rev ≡ 0 },

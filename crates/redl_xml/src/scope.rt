@@ -9,11 +9,14 @@ use std::alloc::{AllocError, Global};
 use std::collections::BTreeMap;
 use std::marker::Model;
 
-/// A declaration in a start tag: the prefix, the space of its namespace, and the space that the prefix had before.
+/// A declaration in a start tag.
 #[derive(Clone, Copy)]
 pub(crate) struct Declaration<'a> {
+    /// The prefix.
     pub(crate) prefix: &'a [u8],
+    /// The space of its namespace.
     pub(crate) space: Space,
+    /// The space that the prefix had before.
     pub(crate) former: Option<Space>,
 }
 

@@ -6,17 +6,21 @@ ghost use Rattle.redl_xml.specs.Inside.Sizes.{capped, one_more, deepest_with, no
 
 use redl_markup::Piece;
 
-/// The greatest depth of an element, and the greatest number of nodes.
+/// How much a text may have.
 #[derive(Clone, Copy)]
 pub(crate) struct Limits {
+    /// The greatest depth of an element.
     pub(crate) depth: usize,
+    /// The greatest number of nodes.
     pub(crate) nodes: u32,
 }
 
-/// The greatest depth so far, and the number of nodes so far, up to one above a limit.
+/// How much a text has so far.
 #[derive(Clone, Copy)]
 pub(crate) struct Sizes {
+    /// The greatest depth.
     pub(crate) deepest: usize,
+    /// The number of nodes, up to one above a limit.
     pub(crate) nodes: u64,
 }
 

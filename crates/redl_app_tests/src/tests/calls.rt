@@ -113,8 +113,11 @@ pub(super) fn add_file(
 /// What a call comes to.
 #[derive(Clone, Copy)]
 pub(super) struct Want<'a> {
+    /// The status of the call.
     pub(super) status: Status,
+    /// What it writes.
     pub(super) bytes: &'a [u8],
+    /// Its lines on standard error.
     pub(super) lines: &'a str,
 }
 

@@ -11,19 +11,20 @@ use redl_tree::{Elem, Lot, Place, Reach, Word, is_word};
 use redl_visit::Ancestors;
 
 /// What a marker has to know of its ancestors in its story, beside their summary.
-///
-/// `revised` says that some ancestor is a revision itself, and `astray` that some ancestor is in a table outside its own rows, or
-/// in a row outside its own cells.
 #[derive(Clone, Copy, Debug, PartialEq, Eq)]
 pub(crate) struct Trail {
+    /// Whether some ancestor is a revision itself.
     pub(crate) revised: bool,
+    /// Whether some ancestor is in a table outside its own rows, or in a row outside its own cells.
     pub(crate) astray: bool,
 }
 
-/// What is handed down to the kids of an element: their trail, and the place among the ends for the end of the element.
+/// What is handed down to the kids of an element.
 #[derive(Clone, Copy, Debug, PartialEq, Eq)]
 pub(crate) struct Below {
+    /// Their trail.
     pub(crate) trail: Trail,
+    /// The place among the ends for the end of the element.
     pub(crate) place: usize,
 }
 
