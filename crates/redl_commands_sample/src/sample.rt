@@ -1,4 +1,4 @@
-//! `sample N`.
+//! `sample N`: makes a sample of so many paragraphs, runs its journals through a session, and sums up what they come to.
 
 ghost use Rattle.std.specs.Prelude.{◌≡◌, ◌≤◌, ℕ, List, [], None, IfOk, OnOk};
 ghost use Rattle.redl_commands.specs.Sample.{reviewers_entries, sampled, summarized, summary_of};

@@ -1,4 +1,4 @@
-//! `check P`.
+//! `check P`: whether a package is sound, and how many revisions it has.
 
 ghost use Rattle.std.specs.Prelude.{◌≡◌, IfOk};
 ghost use Rattle.redl_commands.specs.Check.{checked, counted};

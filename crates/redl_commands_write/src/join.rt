@@ -1,4 +1,4 @@
-//! `join J ..`.
+//! `join J ..`: one journal of several journals of one document.
 
 ghost use Rattle.std.specs.Prelude.{◌≡◌, ◌∷◌, [], All, IsUtf8, IfOk};
 ghost use Rattle.redl_commands.specs.Join.{document_in, joined};

@@ -1,4 +1,4 @@
-//! The editor.
+//! The editor: a package whose stories are kept leaf by leaf, each as it is under the present says.
 
 ghost use Rattle.std.specs.Prelude.{◌≡◌, ◌<◌, ◌≤◌, ◌+◌, ◌∷◌, [], length, map, replicate, true, IfOk, OnOk, OnErr, IsOk};
 ghost use Rattle.redl_editor.specs.Changes.{setting_of, is_changed, former_of};

@@ -1,4 +1,4 @@
-//! Excerpts.
+//! An excerpt: the words of a revision, and what is before and behind them, as its members tell them one by one.
 
 ghost use Rattle.std.specs.Prelude.{◌≡◌, IfOk, OnOk, true, false, if◌then◌else◌};
 ghost use Rattle.redl_tree.specs.Model.View.{nodes_of, tag_of};

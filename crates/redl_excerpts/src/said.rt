@@ -1,4 +1,4 @@
-//! What nodes say.
+//! The text of nodes, as an `Ear` hears it: what bytes show, a space for a tab, a break or a new paragraph, and a hyphen.
 
 ghost use Rattle.std.specs.Prelude.{◌≡◌, [], OnOk, true, if◌then◌else◌};
 ghost use Rattle.redl_shown.specs.Pieces.{piece_text};

@@ -13,6 +13,7 @@ joined-more piece_of (first ∷ second ∷ items) item =
     ap (λ rest. piece_of first ++ (44 ∷ rest)) (joined-more piece_of (second ∷ items) item)
     ∙ sym (append_assoc (piece_of first) (44 ∷ join_with_byte 44 (map piece_of (second ∷ items))) (44 ∷ piece_of item))
 
+-- an item more, after a comma where others are before it, makes the open array of one item more
 pub array-more : {I : Type 0} (piece_of : I → List ℕ) (items : List I) (item : I)
     → array_of piece_of items false ++ (comma_after items ++ piece_of item) ≡ array_of piece_of (items ++ item ∷ []) false
 array-more piece_of items item =

@@ -1,4 +1,4 @@
-//! Dates as texts.
+//! Dates as texts: a moment, in seconds since 1970, as its date and time in UTC.
 
 ghost use Rattle.std.specs.Prelude.{◌≡◌, ◌+◌, ◌<◌, pos, ◌≤ℤ◌};
 ghost use Rattle.jiff_core.specs.Calendar.{day_count};

@@ -1,4 +1,4 @@
-//! Fields as texts.
+//! Fields of lines as texts: names of verdicts and words, and bytes, numbers and dates in columns.
 
 ghost use Rattle.std.specs.Prelude.{◌≡◌, ◌≤◌, ◌++◌, OnOk, IfOk, length, replicate, decimal};
 ghost use Rattle.std.specs.List.{flat_map, list_all};

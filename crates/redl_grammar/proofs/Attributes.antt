@@ -57,6 +57,7 @@ name_is_no_space n rest h =
     let head = name_head n h in
     ap (λ (z : List ℕ). stops is_space (z ++ rest)) head.3 ∙ high_is_no_space head.0 (head.1 ++ rest) head.2
 
+-- what is filled is not empty
 pub is_filled-some : (xs : List ℕ) → is_filled xs ≡ true → (xs ≢ [])
 is_filled-some [] h = absurd cc
 is_filled-some (b ∷ bs) h = λ e. cc
@@ -172,6 +173,7 @@ attribute_again a rest h =
 
 -- ---- the first attribute of a tail
 
+-- the attribute that is read stands there, with what comes after it
 pub first_takes : (bs : List ℕ) (x : (Name × List ℕ) × List ℕ) → attribute_in bs ≡ Some x → (a : Attribute) × (bs ≡ attribute_then a x.1) × IsAttribute a × (named_value a ≡ x.0)
 unfolding attribute_in
 first_takes bs x e =
@@ -182,6 +184,7 @@ first_takes bs x e =
       | inr lacks ↦ absurd (none-some x (rw lacks at e))
     ]
 
+-- an attribute that stands there is read, with what comes after it
 pub first_again : (a : Attribute) (rest : List ℕ) → IsAttribute a → attribute_in (attribute_then a rest) ≡ Some (named_value a, rest)
 unfolding attribute_in
 first_again a rest h =
@@ -191,6 +194,7 @@ first_again a rest h =
     let here = after_again is_space a.gap body h.gap.1 stop in
     rw (gap, here, filled-is a.gap h.gap.0, attribute_again a rest h) refl
 
+-- reading an attribute leaves fewer bytes
 pub first_shorter : (bs : List ℕ) (x : (Name × List ℕ) × List ℕ) → attribute_in bs ≡ Some x → length x.1 < length bs
 first_shorter bs x e = let t = first_takes bs x e in omega (arith, ap length t.1, length-append {A = ℕ})
 
@@ -258,6 +262,7 @@ reads_more s x a e r =
       end = r.end;
     }
 
+-- what any number of turns give is what the tail reads as
 pub tail_takes_turns : (n : ℕ) (s x : Tail) → turns tail_step n s ≡ Some x → Reads s x
 tail_takes_turns zero s x e = absurd cc
 tail_takes_turns (suc n) s x e =
@@ -286,21 +291,26 @@ tail_again_turns (a ∷ attrs) (suc n) names space rest lt each spaces end =
 
 -- ---- the loop of the code
 
+-- in this state the loop over attributes still gives those of all the bytes
 abbrev pub Loop : Tail → List ℕ → Type 0
 Loop s bs = Going tail_step (λ t. length t.1) s (attributes_at bs)
 
+-- before the first turn
 pub loop_begins : (bs : List ℕ) → Loop ([], bs) bs
 unfolding attributes_at
 loop_begins bs = begins tail_step (λ t. length t.1) ([], bs)
 
+-- where the tag ends, the names so far are all
 pub loop_ends : (s : Tail) (more bs : List ℕ) → Loop s bs → more ≡ after is_space s.1 → ends_tag more ≡ true → attributes_at bs ≡ Some (s.0, more)
 loop_ends s more bs g e end =
     rw e (ends tail_step (λ t. length t.1) s (Some (s.0, after is_space s.1)) (attributes_at bs) g (step_ends s (rw (← e) end)))
 
+-- where neither the tag ends nor an attribute stands, there are no attributes
 pub loop_fails : (s : Tail) (more bs : List ℕ) → Loop s bs → more ≡ after is_space s.1 → ends_tag more ≡ false → attribute_in s.1 ≡ None → attributes_at bs ≡ None
 loop_fails s more bs g e other fails =
     ends tail_step (λ t. length t.1) s None (attributes_at bs) g (step_fails s (rw (← e) other) fails)
 
+-- an attribute goes to the others, and the loop goes on after it
 pub loop_goes : (s : Tail) (more bs : List ℕ) (a : (Name × List ℕ) × List ℕ) → Loop s bs → more ≡ after is_space s.1 → ends_tag more ≡ false → attribute_in s.1 ≡ Some a → Loop (s.0 ++ a.0.0 ∷ [], a.1) bs
 loop_goes s more bs a g e other found =
     goes_on tail_step (λ t. length t.1) s (s.0 ++ a.0.0 ∷ [], a.1) (attributes_at bs) g (step_goes s a (rw (← e) other) found) (first_shorter s.1 a found)
@@ -315,6 +325,7 @@ plain_parts (b ∷ bs) h =
     let more = plain_parts bs both.1 in
     (rw here.0 more.0, rw here.1 more.1)
 
+-- plain bytes are a value
 pub plain_value : (bs : List ℕ) → list_all is_plain bs ≡ true → is_value bs ≡ true
 unfolding is_value
 plain_value bs h = let parts = plain_parts bs h in rw parts.0 parts.1

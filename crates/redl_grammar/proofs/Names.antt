@@ -26,6 +26,7 @@ use Rattle.redl_reading.proofs.Turns.{Going, begins, goes_on, ends}
 
 -- ---- characters
 
+-- a character that is decoded is no longer than the bytes
 pub size_fits : (bs : List ℕ) (c : ℕ) → (decoded bs).char ≡ Some c → (decoded bs).size ≤ length bs
 size_fits bs c e = let s = SpellsChar-decoded bs c e in omega (arith, ap length s.bytes, s.width, length-append {A = ℕ})
 
@@ -59,6 +60,7 @@ encode_filled c =
       ]
     ]
 
+-- the character that is read stands there, and reading it leaves fewer bytes
 pub char_takes : (bs : List ℕ) (x : ℕ × List ℕ) → char_at bs ≡ Some x → (bs ≡ encode_utf8 x.0 ++ x.1) × IsScalar x.0 × (length x.1 < length bs)
 unfolding char_at
 char_takes bs x e =
@@ -273,19 +275,24 @@ name_head n h = of n.prefix n.local h.prefix h.local where
 
 -- ---- the loop of the code
 
+-- from here the loop over a name's characters still finds the end of the name
 abbrev pub Loop : Bool → List ℕ → List ℕ → Type 0
 Loop colons rest bs = Going (name_step colons) length rest (name_end colons bs)
 
+-- before the first character
 pub loop_begins : (colons : Bool) (bs : List ℕ) → Loop colons bs bs
 unfolding name_end
 loop_begins colons bs = begins (name_step colons) length bs
 
+-- past a character that may follow in a name
 pub loop_goes : (colons : Bool) (rest bs : List ℕ) (x : ℕ × List ℕ) → Loop colons rest bs → char_at rest ≡ Some x → may_follow colons x.0 ≡ true → Loop colons x.1 bs
 loop_goes colons rest bs x g e p = goes_on (name_step colons) length rest x.1 (name_end colons bs) g (step_goes colons rest x e p) (char_takes rest x e).2
 
+-- the name ends before a character that may not follow
 pub loop_ends : (colons : Bool) (rest bs : List ℕ) (x : ℕ × List ℕ) → Loop colons rest bs → char_at rest ≡ Some x → may_follow colons x.0 ≡ false → name_end colons bs ≡ Some rest
 loop_ends colons rest bs x g e p = ends (name_step colons) length rest (Some rest) (name_end colons bs) g (step_ends colons rest x e p)
 
+-- the name ends where no character stands
 pub loop_stops : (colons : Bool) (rest bs : List ℕ) → Loop colons rest bs → char_at rest ≡ None → name_end colons bs ≡ Some rest
 loop_stops colons rest bs g e = ends (name_step colons) length rest (Some rest) (name_end colons bs) g (step_stops colons rest e)
 
@@ -313,14 +320,17 @@ ends_at_byte colons b bs low h =
     let follows : may_follow colons b ≡ false = rw (le-leb b 127 (omega (arith, low))) at h in
     rw (step_ends colons (b ∷ bs) (b, bs) (ascii_again b bs low) follows) refl
 
+-- what the end of the name is after leading ASCII characters of a name, it is before them
 pub bytes_go : (colons : Bool) (bs rest : List ℕ) (o : Option (List ℕ)) → rest ≡ after (is_name_byte colons) bs → name_end colons rest ≡ o → name_end colons bs ≡ o
 bytes_go colons bs rest o e h = end_behind_bytes colons bs ∙ ap (name_end colons) (sym e) ∙ h
 
+-- where nothing comes after leading ASCII characters of a name, the name ends there
 pub bytes_end : (colons : Bool) (bs rest : List ℕ) → rest ≡ after (is_name_byte colons) bs → None ≡ slice_get rest 0 → name_end colons bs ≡ Some rest
 unfolding name_end char_at name_step
 bytes_end colons bs [] e h = bytes_go colons bs [] (Some []) e refl
 bytes_end colons bs (b ∷ rest) e h = absurd cc
 
+-- where another ASCII character comes after them, the name ends before it
 pub bytes_stop : (colons : Bool) (bs rest : List ℕ) (b : ℕ) → rest ≡ after (is_name_byte colons) bs → Some b ≡ slice_get rest 0 → is_ascii b ≡ true → name_end colons bs ≡ Some rest
 bytes_stop colons bs [] b e h low = absurd cc
 bytes_stop colons bs (c ∷ rest) b e h low =
@@ -337,10 +347,12 @@ letter_may_start : (colons : Bool) (b : ℕ) → is_ascii_alphabetic b ≡ true 
 unfolding may_start is_name_start
 letter_may_start colons b h = grind (arith, nat_tests)
 
+-- a letter of ASCII begins a name
 pub letter_starts : (colons : Bool) (b : ℕ) (rest : List ℕ) → is_ascii_alphabetic b ≡ true → behind_start colons (b ∷ rest) ≡ Some rest
 unfolding behind_start
 letter_starts colons b rest h = rw (ascii_again b rest (letter_low b h), letter_may_start colons b h) refl
 
+-- where no character stands that may begin a name, there is no word
 pub word_fails : (colons : Bool) (bs : List ℕ) → behind_start colons bs ≡ None → word_at colons bs ≡ None
 unfolding behind_start word_at
 word_fails colons bs e = by_char (char_at bs) e where
@@ -356,6 +368,7 @@ word_fails colons bs e = by_char (char_at bs) e where
         | inr other ↦ nothing (name_end colons x.1) (λ rest. cond (may_start colons x.0) (Some (before bs rest, rest)) None) (λ rest. rw other refl)
       ]
 
+-- a character that may begin a name and the end of those after it make a word
 pub word_reads : (colons : Bool) (bs more rest : List ℕ) → behind_start colons bs ≡ Some more → name_end colons more ≡ Some rest → word_at colons bs ≡ Some (before bs rest, rest)
 unfolding behind_start word_at
 word_reads colons bs more rest e end =

@@ -125,6 +125,7 @@ piece_again place (stretch s) rest h f =
     let begins_so : Begins (s ++ rest) = let P : List ℕ → Type 0 = λ z. Begins z in subst P (sym whole) begun in
     stretch_is_read place (s ++ rest) begins_so ∙ stretch_again place s rest h f
 
+-- a piece that the grammar has at the start is the one that is read
 pub stands_is_read : (place : Place) (bs : List ℕ) (p : Piece) (rest : List ℕ) → Stands place bs p rest → piece_at place bs ≡ Some (p, rest)
 stands_is_read place bs p rest h = ap (piece_at place) h.whole ∙ piece_again place p rest h.legal h.follows
 

@@ -173,6 +173,7 @@ items_long : (more : List (Item × List ℕ)) (rest : List ℕ) → length more 
 items_long [] rest = omega arith
 items_long (i ∷ more) rest = omega (arith, items_long more rest, item_long i.0 (i.1 ++ items_then more rest), length-append i.1 (items_then more rest))
 
+-- a stretch that stands there, and ends there, is read
 pub stretch_again : (place : Place) (s rest : List ℕ) → IsStretch place s → ends_stretch rest ≡ true → stretch_at place (s ++ rest) ≡ Some (stretch s, rest)
 unfolding stretch_at items_end
 stretch_again place s rest h end =
@@ -193,28 +194,35 @@ stretch_again place s rest h end =
 after_shorter : (bs : List ℕ) → length (after no_tag bs) ≤ length bs
 after_shorter bs = omega (arith, ap length (front-after no_tag bs), length-append (front no_tag bs) (after no_tag bs))
 
+-- from here the loop over a stretch's items still finds the end of the stretch
 abbrev pub Loop : Place → List ℕ → List ℕ → Type 0
 Loop place left bs = Going (stretch_step place) length left (items_end place bs)
 
+-- before the first item
 pub loop_begins : (place : Place) (bs : List ℕ) → Loop place bs bs
 unfolding items_end
 loop_begins place bs = begins_turns (stretch_step place) length bs
 
+-- text that may not stand here ends the search without a stretch
 pub loop_refuses : (place : Place) (left run bs : List ℕ) → Loop place left bs → run ≡ front no_tag left → is_run place run ≡ false → items_end place bs ≡ None
 loop_refuses place left run bs g f r = ends (stretch_step place) length left None (items_end place bs) g (step_refuses place left (rw (← f) r))
 
+-- where no item begins after the text, the stretch ends
 pub loop_ends : (place : Place) (left run rest bs : List ℕ) → Loop place left bs → run ≡ front no_tag left → rest ≡ after no_tag left → is_run place run ≡ true → begins_item rest ≡ false → items_end place bs ≡ Some rest
 loop_ends place left run rest bs g f a r e =
     rw a (ends (stretch_step place) length left (Some (after no_tag left)) (items_end place bs) g (step_ends place left (rw (← f) r) (ap begins_item (sym a) ∙ e)))
 
+-- where an item begins and none can be read, there is no stretch
 pub loop_fails : (place : Place) (left run rest bs : List ℕ) → Loop place left bs → run ≡ front no_tag left → rest ≡ after no_tag left → is_run place run ≡ true → begins_item rest ≡ true → item_at place rest ≡ None → items_end place bs ≡ None
 loop_fails place left run rest bs g f a r e i = ends (stretch_step place) length left None (items_end place bs) g (step_fails place left (rw (← f) r) (ap begins_item (sym a) ∙ e) (rw (← a) i))
 
+-- an item that is read leaves fewer bytes
 pub loop_shrinks : (place : Place) (left rest next_bs : List ℕ) → rest ≡ after no_tag left → item_at place rest ≡ Some next_bs → length next_bs < length left
 loop_shrinks place left rest next_bs a i =
     let t = item_takes place rest next_bs i in
     omega (arith, after_shorter left, ap length a, ap length t.1, item_long t.0 next_bs)
 
+-- past the text and the item after it
 pub loop_goes : (place : Place) (left run rest next_bs bs : List ℕ) → Loop place left bs → run ≡ front no_tag left → rest ≡ after no_tag left → is_run place run ≡ true → begins_item rest ≡ true → item_at place rest ≡ Some next_bs → Loop place next_bs bs
 loop_goes place left run rest next_bs bs g f a r e i =
     goes_on (stretch_step place) length left next_bs (items_end place bs) g (step_goes place left next_bs (rw (← f) r) (ap begins_item (sym a) ∙ e) (rw (← a) i)) (loop_shrinks place left rest next_bs a i)

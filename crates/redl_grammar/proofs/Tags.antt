@@ -58,6 +58,7 @@ no_attributes : IsTail []
 unfolding are_distinct
 no_attributes = record { attributes = []; space = []; each = tt; is_space = refl; distinct = refl; whole = refl }
 
+-- where the tag ends at once, its tail is empty
 pub tail_of_none : (rest : List ℕ) → ends_tag rest ≡ true → tail_at rest ≡ Some (before rest rest, rest)
 tail_of_none rest end = tail_again [] rest no_attributes end ∙ ap (λ (z : List ℕ). Some (z, rest)) (sym (before-append [] rest))
 

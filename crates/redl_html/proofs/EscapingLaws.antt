@@ -6,6 +6,7 @@ use Rattle.redl_html.specs.Escaping.{is_control, replacement, byte_escaped, esca
 
 -- ---- pieces
 
+-- escaping goes part by part
 pub escaped-append : (xs ys : List ℕ) → escaped (xs ++ ys) ≡ escaped xs ++ escaped ys
 escaped-append xs ys = flat_map-append byte_escaped xs ys
 

@@ -7,10 +7,12 @@ starts-left : (rev : ℕ) (xs ys : List Piece) → starts_with_number rev xs ≡
 starts-left rev [] ys h = cc
 starts-left rev (x ∷ xs) ys h = h
 
+-- a number of the right list is one of both
 pub has-right : (opens : Piece → Bool) (rev : ℕ) (xs ys : List Piece) → has_number opens rev ys ≡ true → has_number opens rev (xs ++ ys) ≡ true
 has-right opens rev [] ys h = h
 has-right opens rev (x ∷ xs) ys h = or_right (opens x && starts_with_number rev (xs ++ ys)) (has_number opens rev (xs ++ ys)) (has-right opens rev xs ys h)
 
+-- a number of the left list is one of both
 pub has-left : (opens : Piece → Bool) (rev : ℕ) (xs ys : List Piece) → has_number opens rev xs ≡ true → has_number opens rev (xs ++ ys) ≡ true
 has-left opens rev [] ys h = cc
 has-left opens rev (x ∷ xs) ys h = at (or_cases (opens x && starts_with_number rev xs) (has_number opens rev xs) h) (has-left opens rev xs ys)

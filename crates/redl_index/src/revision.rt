@@ -1,4 +1,4 @@
-//! Revisions.
+//! A revision: its number, what it is, who made it and when, and which kinds of elements are its members.
 
 ghost use Rattle.std.specs.Prelude.{◌≡◌, IfOk, IsTrue};
 ghost use Rattle.std.specs.Str.{IsUtf8};

@@ -46,6 +46,7 @@ pub record HasEntries (reader : Reader) (files : Files) (document : DocumentId) 
   pub is_held : held name (files name) ≡ Ok whole
   pub is_read : entries_of document name (reader.journal whole) ≡ Ok entries
 
+-- entries that were read of a journal are those that its file has
 pub has_entries : (reader : Reader) (files : Files) (document : DocumentId) (left : ℕ) (name : List ℕ) (first : List Entry × ℕ)
     → journal_at reader files document left name ≡ Ok first → HasEntries reader files document name first.0
 has_entries reader files document left name first is =

@@ -14,6 +14,7 @@ journal_by : (text : List ℕ) (journal : Journal) (read : Option Journal) → I
 journal_by text journal None none is = absurd (none journal is)
 journal_by text journal (Some other) read is = ap Some (one_reading text other journal read is)
 
+-- a reader reads the journal that a text is
 pub reads_journal : (reader : Reader) (text : List ℕ) (journal : Journal) → IsReader reader → IsJournal text journal → reader.journal text ≡ Some journal
 reads_journal reader text journal is found = journal_by text journal (reader.journal text) (is.journals text) found
 

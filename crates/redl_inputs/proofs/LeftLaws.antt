@@ -107,6 +107,7 @@ without_left reader files document left [] = refl
 without_left reader files document left (name ∷ names) =
     alone_one reader files document left names (journal_at reader files document left name) (λ size. without_left reader files document (left - size) names)
 
+-- entries that were gathered with the bytes that are left are gathered
 pub gathered_of : (reader : Reader) (files : Files) (document : DocumentId) (left : ℕ) (names : List (List ℕ)) (made : List Entry × ℕ)
     → gathered_with reader files document left names ≡ Ok made → gathered reader files document left names ≡ Ok made.0
 gathered_of reader files document left names made is =

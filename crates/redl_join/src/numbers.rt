@@ -1,4 +1,4 @@
-//! Numbers of reviewers.
+//! A number for each name of a reviewer, so that words hold no copy of the name.
 ghost use Rattle.std.specs.Prelude.{◌≡◌, ◌&&◌, ◌||◌, ◌==◌, ℕ, List, IfOk, IfSome, IfNone, OnErr, false, true};
 ghost use Rattle.std.specs.Str.{bytes_eq};
 ghost use Rattle.redl_join.specs.Inside.Numbers.{AreNumbers, has_number, is_numbered};

@@ -1,4 +1,4 @@
-//! Groups of kinds.
+//! Groups of kinds: one name for all kinds of content, of paragraphs, of rows, of cells or of properties.
 ghost use Rattle.std.specs.Prelude.{◌≡◌};
 
 use crate::rev_kind::RevKind;

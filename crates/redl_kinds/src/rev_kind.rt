@@ -1,4 +1,4 @@
-//! Kinds of revisions.
+//! Kinds of revisions: what is changed, and whether it is inserted, deleted or moved.
 
 use redl_tree::{Prop, Trace};
 

@@ -1,4 +1,4 @@
-//! One story.
+//! One story: splits its kids into leaves, and sets says in it.
 
 ghost use Rattle.std.specs.Prelude.{◌<◌, ◌^◌, ◌≡◌, ℕ, ◌∷◌, List, [], Bool, map, replicate, IfOk, OnOk};
 ghost use Rattle.redl_leaves.specs.Spots.{spot_of};

@@ -1,4 +1,4 @@
-//! Lines.
+//! A line: finds of one fact that follow each other in one part and tell the same.
 
 use crate::fact::Fact;
 use redl_io::Text;

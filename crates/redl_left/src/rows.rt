@@ -1,4 +1,4 @@
-//! The tables.
+//! The two tables of rows: what names comments, notes and authors, and all that is left in a document.
 
 use crate::fact::Fact;
 use crate::name::Name;

@@ -1,4 +1,4 @@
-//! Formats of listings.
+//! What a format of listings promises, whoever wrote it, and the names of the five that the program brings.
 
 ghost use Rattle.std.specs.Prelude.{◌≡◌, ◌++◌, ◌∷◌, [], List, ℕ, Bool, true, false, OnOk, OnErr};
 ghost use Rattle.redl_formats.specs.Formats.{lines_of, array_of};

@@ -1,4 +1,4 @@
-//! Rows.
+//! A row of a listing: what is listed of one revision.
 
 ghost use Rattle.std.specs.Prelude.{◌≡◌, ◌<◌, length, All, IfOk};
 ghost use Rattle.std.specs.Str.{IsUtf8};

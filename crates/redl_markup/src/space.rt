@@ -1,4 +1,4 @@
-//! White space.
+//! White space: the four bytes that XML takes for it, and a run of them.
 
 ghost use Rattle.std.specs.Prelude.{◌≡◌};
 ghost use Rattle.redl_grammar.specs.Characters.{is_space};

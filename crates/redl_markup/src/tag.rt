@@ -1,4 +1,4 @@
-//! Tags.
+//! Tags: start tags with their attributes, tags of empty elements, and end tags.
 
 ghost use Rattle.std.specs.Prelude.{◌≡◌, codes, map, IfOk};
 ghost use Rattle.redl_markup.specs.Attributes.{names_in};

@@ -27,6 +27,7 @@ module _ (marks : List Marking) (rises : RisesFrom 0 marks) where
   at-place : (mark : Marking) → (i : ℕ) × (slice_get marks i ≡ Some mark) → IsAtPlace marks mark
   at-place mark there = ap (slice_get marks) (place-at 0 marks there.0 mark rises there.1).1 ∙ there.1
 
+  -- both ranges of a pair have their starts and ends among the markers
   pub pair-there : (pair : Pair) → In pair (pairs marks) → IsThere marks pair
   pair-there pair i =
       let own = map-in (pair_of marks) marks pair i in

@@ -1,4 +1,4 @@
-//! Packages.
+//! A package: its nodes, and the parts that a text of the right shape has.
 
 ghost use Rattle.std.specs.Prelude.{◌≡◌, ◌<◌, ◌^◌, None, length, map, slice_get, IfOk, IfErr, IfSome, IsTrue};
 ghost use Rattle.std.specs.Str.{IsUtf8};

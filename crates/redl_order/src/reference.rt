@@ -1,4 +1,4 @@
-//! References to notes.
+//! References to footnotes and endnotes: what they name, and by which id.
 
 ghost use Rattle.std.specs.Prelude.{◌≡◌};
 ghost use Rattle.redl_tree.specs.Roles.Words.{name_of};

@@ -58,6 +58,7 @@ pub record HasJournal (reader : Reader) (files : Files) (name : List ℕ) (journ
   pub is_held : held name (files name) ≡ Ok whole
   pub is_read : reader.journal whole ≡ Some journal
 
+-- a journal that is not refused was found
 pub found_journal : (name : List ℕ) (found : Option Journal) (journal : Journal) → journal_or_none name found ≡ Ok journal → found ≡ Some journal
 found_journal name None journal is = absurd (cc is)
 found_journal name (Some other) journal is = ap Some (same_ok is)
@@ -89,6 +90,7 @@ by_tests true true one two entries given is = (refl, refl)
 by_tests true false one two entries given is = absurd (cc is)
 by_tests false counts one two entries given is = absurd (cc is)
 
+-- a journal whose entries are taken is of the document
 pub same_document : (document : DocumentId) (name : List ℕ) (journal : Journal) (given : List Entry) → entries_in document name journal ≡ Ok given → document_in journal ≡ document
 same_document document name journal given is =
     let both = by_tests (bytes_eq journal.digest document.digest) (journal.count == document.count) _ _ journal.entries given is in
@@ -97,6 +99,7 @@ same_document document name journal given is =
     ap (λ (digest : List ℕ). let d : DocumentId = record { digest = digest; count = journal.count } in d) digests
     ∙ ap (λ (count : ℕ). let d : DocumentId = record { digest = document.digest; count = count } in d) counts
 
+-- where a file has a journal and its entries are taken, the journal is of the document
 pub of_document : (reader : Reader) (files : Files) (document : DocumentId) (name : List ℕ) (journal : Journal) (entries : List Entry)
     → HasJournal reader files name journal → HasEntries reader files document name entries → document_in journal ≡ document
 of_document reader files document name journal entries has is =
@@ -114,6 +117,7 @@ pub record Joined (reader : Reader) (files : Files) (name : List ℕ) (names : L
   pub gathers : gathered reader files (document_in journal) left names ≡ Ok more
   pub written : only_bytes (book_text (document_in journal) (union [] (journal.entries ++ more))) ≡ writing
 
+-- what `join` wrote, with the files and entries that it was made of
 pub was_joined : (reader : Reader) (files : Files) (most : ℕ) (name : List ℕ) (names : List (List ℕ)) (writing : Writing)
     → joined reader files most (name ∷ names) ≡ Ok writing → Joined reader files name names writing
 was_joined reader files most name names writing is =

@@ -56,6 +56,7 @@ failed_is_not_written (caused cause) is =
     by_cause (λ s. IsWritten s → ⊥) (unwritten (λ e. cc e) (λ e. cc e)) (unwritten (λ e. cc e) (λ e. cc e)) (unwritten (λ e. cc e) (λ e. cc e))
     (unwritten (λ e. cc e) (λ e. cc e)) (unwritten (λ e. cc e) (λ e. cc e)) (unwritten (λ e. cc e) (λ e. cc e)) (unwritten (λ e. cc e) (λ e. cc e)) cause is
 
+-- where the status says that it was written, something was made
 pub is_made : (made : Result Writing Failure) → IsWritten (outcome_of made).status → (writing : Writing) × (made ≡ Ok writing)
 is_made (Ok writing) is = (writing, refl)
 is_made (Err failure) is = absurd (failed_is_not_written failure is)
@@ -71,6 +72,7 @@ none_broken number (test ∷ later) parts is = here (holds test parts) refl (non
     here true e rest none = and_from (holds test parts) (list_all (λ other. holds other parts) later) e (rest none)
     here false e rest none = absurd (cc none)
 
+-- a package that was read is sound
 pub sound_package : (reader : Reader) (whole : List ℕ) (nodes : Nodes) → package_in reader whole ≡ Ok nodes → is_sound rules nodes ≡ true
 sound_package reader whole nodes is =
     let tree = both_ok (tree_in (reader.tree whole)) (λ tree. shaped tree >>= (λ package_. sound package_)) nodes is in

@@ -222,6 +222,7 @@ made_is : (reader : Reader) (words : List (List ℕ)) (files : Files) (brought :
     → writing_of reader files brought (reader.command words) ≡ made_of reader files p q firsts journals
 made_is reader words files brought p q firsts journals e = ap (writing_of reader files brought) e
 
+-- the law of two sittings holds of every call
 pub sittings_agree : (reader : Reader) (words : List (List ℕ)) (files : Files) (brought : Brought) → SittingsAgree reader words files brought
 sittings_agree reader words files brought p q firsts journals e written =
     let made = is_made (writing_of reader files brought (reader.command words)) written in

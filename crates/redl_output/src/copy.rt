@@ -1,4 +1,4 @@
-//! Copies of nodes.
+//! Copies of nodes, which share the text that they borrow.
 
 ghost use Rattle.std.specs.Prelude.{◌≡◌, IfOk};
 ghost use Rattle.redl_tree.specs.Model.View.{nodes_of, item_of, tag_of, kids_of, held_of, spaced_of};

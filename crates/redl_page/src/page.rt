@@ -1,4 +1,4 @@
-//! The whole page.
+//! The whole page: its head with title, policy and style, its stories, its journals and its script.
 
 ghost use Rattle.std.specs.Prelude.{◌≡◌, ◌++◌, [], ℕ, Some, codes, decimal, length, option_map};
 ghost use Rattle.hex.specs.Hex.{encode_lower};

@@ -29,6 +29,7 @@ module _ (w : ℕ) (ws : List ℕ) where
       let rest = text kids ++ end_text tag space in
       front (text kids) (end_text tag space) (behind (62 ∷ []) rest (behind (start_text tag) ((62 ∷ []) ++ rest) h))
 
+  -- where the text of an element lacks the word, its tag, its kids and what comes after it lack it
   pub lacking : (tag : Tag) (kids rest : Nodes) → ClosesBy tag.close kids → Lacks (text (element tag kids rest)) → Lacking w ws tag kids rest
   lacking tag kids rest closed h =
       let own = front (element_text tag (text kids)) (text rest) h in

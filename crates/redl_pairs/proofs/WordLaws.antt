@@ -15,6 +15,7 @@ begins-longer [] v bs e = absurd (true≢false e)
 begins-longer (w ∷ ws) v [] e = refl
 begins-longer (w ∷ ws) v (b ∷ bs) e = longer_step (eqb b w) (begins ws bs) (begins (ws ++ v) bs) (begins-longer ws v bs) e
 
+-- a text that lacks a word lacks each longer one that begins with it
 pub lacks-longer : (w : ℕ) (ws more t : List ℕ) → lacks (w ∷ ws) t ≡ true → lacks ((w ∷ ws) ++ more) t ≡ true
 lacks-longer w ws more [] h = refl
 lacks-longer w ws more (b ∷ bs) h =
@@ -38,6 +39,7 @@ begins_less word t more e =
       | inr h ↦ h
     ]
 
+-- what a text lacks, its front lacks
 pub lacks-front : (w : ℕ) (ws x y : List ℕ) → lacks (w ∷ ws) (x ++ y) ≡ true → lacks (w ∷ ws) x ≡ true
 lacks-front w ws [] y h = refl
 lacks-front w ws (b ∷ x) y h =
@@ -45,6 +47,7 @@ lacks-front w ws (b ∷ x) y h =
     and_from (not (begins (w ∷ ws) (b ∷ x))) (lacks (w ∷ ws) x)
     (ap not (begins_less (w ∷ ws) (b ∷ x) y (not-true (begins (w ∷ ws) (b ∷ (x ++ y))) both.0))) (lacks-front w ws x y both.1)
 
+-- what a text lacks, its rest lacks
 pub lacks-rest : (w : ℕ) (ws x y : List ℕ) → lacks (w ∷ ws) (x ++ y) ≡ true → lacks (w ∷ ws) y ≡ true
 lacks-rest w ws [] y h = h
 lacks-rest w ws (b ∷ x) y h = lacks-rest w ws x y (and_parts (not (begins (w ∷ ws) (b ∷ (x ++ y)))) (lacks (w ∷ ws) (x ++ y)) h).1

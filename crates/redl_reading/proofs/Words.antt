@@ -44,6 +44,7 @@ pub behind_is : (word bs : List ℕ) (o : Option (List ℕ)) → MatchOption o (
 behind_is word bs None h = behind_not_pointwise word bs h
 behind_is word bs (Some x) h = behind_pointwise word bs h.0 ∙ ap (λ (r : List ℕ). Some r) (sym h.1)
 
+-- where nothing comes after the word, the bytes do not begin with it
 pub begins_none : (word bs : List ℕ) → behind word bs ≡ None → begins word bs ≡ false
 begins_none [] bs e = absurd (let h : None ≡ Some bs = sym e in cc)
 begins_none (w ∷ ws) [] e = refl
@@ -53,6 +54,7 @@ begins_none (w ∷ ws) (b ∷ bs) e =
       | inr other ↦ rw other refl
     ]
 
+-- where bytes do not begin with the word, nothing comes after it
 pub none_begins : (word bs : List ℕ) → begins word bs ≡ false → behind word bs ≡ None
 none_begins [] bs e = absurd cc
 none_begins (w ∷ ws) [] e = refl

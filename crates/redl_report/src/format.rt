@@ -1,4 +1,4 @@
-//! Formats of reports.
+//! What a format of reports promises, whoever wrote it, and the names of two of those that the program brings.
 
 ghost use Rattle.std.specs.Prelude.{◌≡◌, ◌++◌, ◌∷◌, [], List, ℕ, Bool, true, false, OnOk, OnErr};
 ghost use Rattle.redl_formats.specs.Formats.{lines_of, array_of};

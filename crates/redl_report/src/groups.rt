@@ -1,4 +1,4 @@
-//! Things by names.
+//! Entries by their reviewers, and revisions by their authors.
 
 ghost use Rattle.std.specs.Prelude.{◌≡◌, All, IfOk, OnOk};
 ghost use Rattle.redl_join.specs.Books.{IsBook};

@@ -1,4 +1,4 @@
-//! The format `table`.
+//! The format `table`: a report in columns, for a terminal.
 
 ghost use Rattle.std.specs.Prelude.{◌≡◌, ◌++◌, ◌∷◌, IfOk, OnOk, OnErr, [], false, true};
 ghost use Rattle.redl_report.specs.Counts.{IsLine};

@@ -1,4 +1,4 @@
-//! Which rules hold.
+//! Which of the rules of structure hold, and which is the least that does not.
 
 ghost use Rattle.std.specs.Prelude.{◌≡◌, ◌<◌, IfSome, length, not, position};
 ghost use Rattle.redl_rules.specs.Keeping.{all_kept, in_both, least_broken};

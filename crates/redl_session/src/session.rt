@@ -1,4 +1,4 @@
-//! Sessions.
+//! A session: a sound package, its locks, and the book of the entries that it admitted.
 ghost use Rattle.std.specs.Prelude.{◌≡◌, [], None, All, length, map, IfOk, IfErr, OnOk, OnErr, if◌then◌else◌};
 ghost use Rattle.redl_index.specs.Numbers.{numbered_package};
 ghost use Rattle.redl_index.specs.Revisions.{revisions_of};

@@ -6,6 +6,7 @@ use Rattle.redl_shown.specs.declared.parts.Part.{Part}
 use Rattle.redl_shown.specs.declared.parts.Part.TheVariants.{Characters, Reference, Comment, Instruction, Cdata}
 use Rattle.redl_shown.specs.Shown.{in_part, is_plain, is_characters, is_in_characters, shown_from}
 
+-- bytes begin with a word exactly where something, if only nothing, comes after it
 pub begins-behind : (word bs : List ℕ) → begins word bs ≡ is_some (behind word bs)
 begins-behind [] bs = refl
 begins-behind (w ∷ ws) [] = refl

@@ -128,5 +128,6 @@ stays_of says (x ∷ xs) h =
     ∙ sym (kept-tags says x.tag x.kids h.0.loud))
     ∙ ap (λ (ts : List (List Tag)). kept_marks says x ∷ ts) (stays_of says xs h.1)
 
+-- the law: of each story, the marks that stay are those of the kept revisions that are in nothing that goes
 pub kept_stay : (value : Value) → KeptStay value
 kept_stay value says nodes indexed = ap (λ (xs : List Element). map marks xs) (stories-pass says nodes) ∙ stays_of says (stories nodes) (indexed_stories value nodes indexed)

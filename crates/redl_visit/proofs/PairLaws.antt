@@ -5,6 +5,7 @@ use Rattle.redl_visit.specs.Visits.{VisitRule, VisitNeeds, visited, visited_elem
 use Rattle.redl_visit.specs.Pairs.{both_rule, both_needs}
 
 module _ {H O P S T : Type 0} (inside : Tag → H → H) (r : VisitRule H O S) (q : VisitRule H P T) where
+  -- a visit with two visitors gives what two visits give
   pub both-visited : (here : H) (own : O × P) (nodes : Nodes) (s : S × T) →
       visited inside (both_rule r q) here own nodes s ≡ (visited inside r here own.0 nodes s.0, visited inside q here own.1 nodes s.1)
   both-visited here own no_nodes s = refl

@@ -84,6 +84,7 @@ module _ {H : Type 0} (inside : Tag → H → H) (tag : Tag) (kids : Nodes) (her
   pub no_inner : None ≡ inner_of inside tag kids here → has_element kids ≡ false
   no_inner is = sym is_inner ∙ ap is_some (sym is)
 
+  -- a summary that is handed down is that of the element and its ancestors
   pub some_inner : (inner : H) → Some inner ≡ inner_of inside tag kids here → inner ≡ inside tag here
   some_inner inner is = by (has_element kids) is
     where

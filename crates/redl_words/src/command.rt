@@ -1,4 +1,4 @@
-//! Commands.
+//! Commands: what the words of a command line ask for, each with its names, options and locks.
 
 use crate::only::Only;
 use redl_io::Text;

@@ -1,4 +1,4 @@
-//! File names.
+//! Names of files among the words: which words can be one, and copies of them.
 
 ghost use Rattle.std.specs.Prelude.{◌≡◌, ◌++◌, ◌∷◌, [], OnOk, IfOk};
 ghost use Rattle.std.specs.List.{list_all};

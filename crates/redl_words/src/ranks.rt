@@ -1,4 +1,4 @@
-//! Ranks.
+//! Ranks of reviewers: a number from 0 to 9.
 
 ghost use Rattle.std.specs.Prelude.{◌≡◌};
 ghost use Rattle.redl_words.specs.Reading.Ranks.{rank_in};

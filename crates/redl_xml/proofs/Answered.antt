@@ -45,6 +45,7 @@ is_within limit bound bs x u h le few e =
     let same = same_Some h.read u (sym (document_of_reading bs h.read h.reading) ∙ e) in
     (omega (arith, h.deepest, ap depth_of same), omega (arith, h.nodes, ap count same))
 
+-- what is no text has no reading
 pub no_text : (bs : List ℕ) → (IsText bs → ⊥) → HasNoReading bs
 no_text bs h u reading = h reading.characters
 

@@ -134,6 +134,7 @@ document_sound bs u rest b a t tb e ta none =
       };
     }
 
+-- the nodes of a document are a reading of it
 pub reading_of_document : (bs : List ℕ) (u : Nodes) → IsText bs → document_at bs ≡ Some u → IsReading bs u
 unfolding document_at
 reading_of_document bs u t e =
@@ -169,6 +170,7 @@ document_of_reading bs u h =
 pub one_tree : (bs : List ℕ) (u v : Nodes) → IsReading bs u → IsReading bs v → u ≡ v
 one_tree bs u v hu hv = same_Some u v (sym (document_of_reading bs u hu) ∙ document_of_reading bs v hv)
 
+-- what is no document has no reading
 pub no_document : (bs : List ℕ) → document_at bs ≡ None → (u : Nodes) → IsReading bs u → ⊥
 no_document bs e u h = none-some u (sym e ∙ document_of_reading bs u h)
 

@@ -1,4 +1,4 @@
--- Numbers of reviewers.
+-- A number for each name of a reviewer: which one a name has, and how a new name gets one.
 use Rattle.std.specs.Prelude.{◌≡◌, ◌==◌, ◌&&◌, ◌<◌, ℕ, Bool, true, List, length}
 use Rattle.std.specs.Global.{Vec}
 use Rattle.std.specs.List.{list_any}

@@ -217,6 +217,7 @@ all_sound ext (x ∷ xs) n =
       all_sound ext xs (record { rule_1 = r1.1; rule_2 = r2.1; rule_3 = r3.1; rule_4 = r4.1; rule_5 = r5.1; rule_6 = r6.1; rule_8 = r8.1; own = rx.1 }),
     )
 
+-- a package that is sound keeps each of the nine rules
 pub nine : (has_id declares : List ℕ → Bool) (nodes : Nodes) → is_sound (tests has_id declares) nodes ≡ true → NineHold has_id declares (stories nodes)
 nine has_id declares nodes e =
     let a = and_parts (holds test_1 (stories nodes)) _ e in
@@ -261,30 +262,39 @@ module _ (value : Value) (has_id declares : List ℕ → Bool) (says : List Say)
   pub again_1 : holds test_1 (stories (pass_package says nodes)) ≡ true
   again_1 = again_by test_1 test_1 nine_now.rule_1 (kept_1 test_1 says)
 
+  -- rule 2
   pub again_2 : holds test_2 (stories (pass_package says nodes)) ≡ true
   again_2 = again_by test_1 test_2 nine_now.rule_1 (kept_2 test_1 says)
 
+  -- rule 3
   pub again_3 : holds test_3 (stories (pass_package says nodes)) ≡ true
   again_3 = content_holds (stories (pass_package says nodes)) (again_by test_1 kid_3 nine_now.rule_1 (kept_3 test_1 says))
 
+  -- rule 4
   pub again_4 : holds test_4 (stories (pass_package says nodes)) ≡ true
   again_4 = again_by test_1 test_4 nine_now.rule_1 (kept_4 test_1 says)
 
+  -- rule 5
   pub again_5 : holds test_5 (stories (pass_package says nodes)) ≡ true
   again_5 = again_by test_1 test_5 nine_now.rule_1 (kept_5 test_1 says)
 
+  -- rule 6
   pub again_6 : holds test_6 (stories (pass_package says nodes)) ≡ true
   again_6 = again_by test_1 test_6 nine_now.rule_1 (kept_6 test_1 says)
 
+  -- rule 7
   pub again_7 : holds (test_7 has_id) (stories (pass_package says nodes)) ≡ true
   again_7 = again_by (test_7 has_id) (test_7 has_id) nine_now.rule_7 (kept_7 has_id says)
 
+  -- rule 8
   pub again_8 : holds test_8 (stories (pass_package says nodes)) ≡ true
   again_8 = again_by test_1 test_8 nine_now.rule_1 (kept_8 test_1 says)
 
+  -- rule 9
   pub again_9 : holds (test_9 declares) (stories (pass_package says nodes)) ≡ true
   again_9 = again_by (test_9 declares) (test_9 declares) nine_now.rule_9 (kept_9 declares says)
 
+  -- the law of soundness: a pass over a sound, indexed package leaves a sound one, under any says
   pub soundness : is_sound (tests has_id declares) (pass_package says nodes) ≡ true
   soundness =
       and_from _ _ again_1 (and_from _ _ again_2 (and_from _ _ again_3 (and_from _ _ again_4 (and_from _ _ again_5

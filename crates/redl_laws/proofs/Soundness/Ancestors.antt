@@ -30,6 +30,7 @@ pub implies_from : (a b : Bool) → (a ≡ true → b ≡ true) → implies a b 
 implies_from true b h = h refl
 implies_from false b h = refl
 
+-- an implication that holds, used
 pub implies_of : (a b : Bool) → implies a b ≡ true → a ≡ true → b ≡ true
 implies_of true b h e = h
 implies_of false b h e = absurd (true≢false (sym e))
@@ -380,6 +381,7 @@ past_open (a ∷ ancestors) = at (is_some (trace_of a)) refl (past_open ancestor
     at true e ih = ih ∙ sym (open_∷ a ancestors (trace_loud a e))
     at false e ih = refl
 
+-- what stands among blocks has no quiet ancestor
 pub blocks_open : (ancestors : List Tag) → in_blocks ancestors ≡ true → is_open ancestors ≡ true
 blocks_open ancestors e = at ancestors (sym (in_blocks-reach ancestors) ∙ e)
   where
@@ -517,6 +519,7 @@ change_first ancestors tag prop e =
     ∙ drop_none (in_cell_props ancestors) _
     ∙ ap (λ x. first_role (x ∷ [])) k
 
+-- an element has the role of a change exactly where one of its name may stand
 pub change_role : (ancestors : List Tag) (tag : Tag) → is_change (role ancestors tag) ≡ at_props ancestors (prop_of tag)
 change_role ancestors tag = at (prop_of tag) refl
   where

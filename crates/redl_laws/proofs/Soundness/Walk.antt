@@ -134,6 +134,7 @@ role_shut ancestors tag e = at (prop_of tag) (sym (change_role ancestors tag) �
 shut_more : (tag : Tag) (ancestors : List Tag) → is_open ancestors ≡ false → is_open (tag ∷ ancestors) ≡ false
 shut_more tag ancestors e = false_from_ne_true (is_open (tag ∷ ancestors)) (λ o. true≢false (sym (open_tail tag ancestors o) ∙ e))
 
+-- what is below a change has a quiet ancestor
 pub change_shut : (ancestors : List Tag) → below_change ancestors ≡ true → is_open ancestors ≡ false
 change_shut [] e = absurd (true≢false (sym e))
 change_shut (tag ∷ ancestors) e = at (is_change (role ancestors tag)) refl (below_change ancestors) refl e (λ k. change_shut ancestors k)

@@ -86,6 +86,7 @@ IsLoudPiece (para tag cut kids) = is_quiet tag ≡ false
 IsLoudPiece (thin nodes) = Unit {0}
 IsLoudPiece (thick nodes) = Unit {0}
 
+-- no paragraph of the pieces is quiet
 abbrev pub AreLoud : List Piece → Type 0
 AreLoud [] = Unit {0}
 AreLoud (p ∷ ps) = IsLoudPiece p × AreLoud ps
@@ -144,6 +145,7 @@ texts-grouped followed held (p ∷ ps) l t =
 
 -- Survivors as a recursion
 
+-- whether an element goes, by its fate or with its row, cell or table
 abbrev pub gone_at : List Say → List Tag → Tag → Nodes → Bool
 gone_at says ancestors tag kids =
     (is_content tag.kind && is_cut (fate_of says tag)) || is_drop (fate_of says tag) || goes_at says ancestors tag kids
@@ -305,6 +307,7 @@ piece_loud says ancestors tag kids passed =
     piece_loud-if (is_block_para says ancestors tag) (is_thick tag) (para_is_cut says kids) (renamed says ancestors tag) (kept_kids says ancestors tag kids passed)
     (element_pass says ancestors tag kids passed) (λ e. quiet_renamed says ancestors tag ∙ quiet_p tag (block_p says ancestors tag e))
 
+-- the pieces of any nodes are loud
 pub pieces_loud : (says : List Say) (ancestors : List Tag) (nodes : Nodes) → AreLoud (pieces says ancestors nodes)
 pieces_loud says ancestors no_nodes = tt
 pieces_loud says ancestors (bytes b rest) = (tt, pieces_loud says ancestors rest)
@@ -330,6 +333,7 @@ texts-pieces says ancestors (element tag kids rest) o fit =
 
 -- Stretches
 
+-- the tags of the ancestors
 abbrev pub tags_above : List Element → List Tag
 tags_above ancestors = map (λ parts. parts.tag) ancestors
 

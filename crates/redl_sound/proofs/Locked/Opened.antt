@@ -33,10 +33,12 @@ shape-of : (o : Option OpcError) (tree nodes : Nodes) → refusal tree ≡ o →
 shape-of None tree nodes is e = ap refusal (sym (same_ok e)) ∙ is
 shape-of (Some error) tree nodes is e = absurd (cc e)
 
+-- the test for soundness gives the nodes back
 pub sound-same : (o : Option ℕ) (tree nodes : Nodes) → sound_unless o tree ≡ Ok nodes → tree ≡ nodes
 sound-same None tree nodes e = same_ok e
 sound-same (Some rule) tree nodes e = absurd (cc e)
 
+-- a package that was read has the shape of one
 pub shape-read : (reader : Reader) (whole : List ℕ) (nodes : Nodes) → package_in reader whole ≡ Ok nodes → refusal nodes ≡ None
 shape-read reader whole nodes is =
     let tree = both_ok (tree_in (reader.tree whole)) (λ tree. shaped tree >>= (λ package_. sound package_)) nodes is in

@@ -19,10 +19,12 @@ stories_in-in_front ancestors (element_item tag kids) ys = refl
 stories_in-in_front ancestors (idle_item t) ys = stories_past ancestors false (idle_nodes t) ys (nodes_are_idle t)
 
 module _ {S : Type 0} (rule : StoryRule S) where
+  -- what is left after two lists of stories is what the second leaves of what the first left
   pub left_after-append : (given : S) (xs ys : List Element) → left_after rule given (xs ++ ys) ≡ left_after rule (left_after rule given xs) ys
   left_after-append given [] ys = refl
   left_after-append given (story ∷ xs) ys = left_after-append (rule.left given story.tag story.kids) xs ys
 
+  -- nodes are changed item by item
   pub changed_in-in_front : (given : S) (ancestors : List Tag) (x : Item) (ys : Nodes)
       → changed_in rule given ancestors (in_front x ys)
       ≡ in_front (changed_item rule given ancestors x) no_nodes ⊕ changed_in rule (left_after rule given (item_stories ancestors x)) ancestors ys

@@ -51,6 +51,7 @@ is_reading : (t : List ℕ) → is_idle_text t ≡ true → idle_nodes t ≡ nod
 unfolding idle_nodes
 is_reading t h = ap (λ b. if b then nodes_in W t else element (of_w (codes "r")) no_nodes no_nodes) h
 
+-- a text that is kept as idle reads as the nodes that it stands for
 pub laid_nodes : (t : List ℕ) → is_idle_text t ≡ true → nodes_in W t ≡ idle_nodes t
 laid_nodes t h = sym (is_reading t h)
 

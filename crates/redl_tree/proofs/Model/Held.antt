@@ -9,18 +9,22 @@ use Rattle.redl_tree.specs.declared.node.Node.{Node}
 use Rattle.redl_tree.specs.declared.node.Elem.{Elem}
 use Rattle.redl_tree.specs.declared.node.Spaced.{Spaced, roll-Spaced}
 
+-- an empty element holds nothing
 pub held_of-Empty : held_of body.Empty ≡ record { kids = no_nodes; close = Empty }
 held_of-Empty = search (rules, the_lemmas)
 
+-- an element with kids holds them
 pub held_of-Kids : (v : Vec Node Global) → held_of (body.Kids v) ≡ record { kids = nodes_of v.items; close = End [] }
 held_of-Kids v = search (rules, the_lemmas)
 
+-- one whose end tag has white space holds what its box says
 pub held_of-Spaced : (b : Box Spaced Global) → held_of (body.Spaced b) ≡ spaced_of b.value
 held_of-Spaced b = search (rules, the_lemmas)
 
 pub spaced_of-made : (s : Spaced-F Body Node Elem Spaced) → spaced_of (roll-Spaced s) ≡ record { kids = nodes_of s.kids.items; close = End s.white.now }
 spaced_of-made s = search (rules, the_lemmas)
 
+-- the same by the fields of the box
 pub spaced_of-fields : (s : Spaced) → spaced_of s ≡ record { kids = nodes_of s.kids.items; close = End s.white.now }
 spaced_of-fields s = search (rules, the_lemmas)
 

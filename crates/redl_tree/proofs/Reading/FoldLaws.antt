@@ -218,6 +218,7 @@ no_more space u = record { turns_taken = 1; gets = rw (level_ends space (level [
 abbrev tag_by : List ℕ → List ℕ → Space → List ℕ → Close → Kind → ℕ → Tag
 tag_by prefix local space tail close kind rev = record { prefix = prefix; local = local; space = space; tail = tail; close = close; kind = kind; rev = rev }
 
+-- a tag that was read is the plain tag of its parts
 pub tag_is : (space : Space) (tag : Tag) (close : Close) → IsLaidTag space tag → tag.close ≡ close → tag ≡ plain_tag (name_of tag) space tag.tail close
 tag_is space tag close h e =
     ap (λ (x : Space). tag_by tag.prefix tag.local x tag.tail tag.close tag.kind tag.rev) h.of_space
@@ -333,6 +334,7 @@ unfolding level_step nodes_at
 nothing_in [] none = refl
 nothing_in (b ∷ bs) none = absurd (omega (arith, none))
 
+-- an empty text reads as no nodes
 pub nothing_reads : Reads W []
 unfolding level_step nodes_at
 nothing_reads = refl

@@ -266,6 +266,7 @@ module _ (value : Value) (moves : List Pair) where
 -- Stories
 
 module _ (value : Value) (next : ℕ) (root : Tag) where
+  -- a label changes nothing of a story but labels
   pub unlabelled-story : (kids : Nodes) → unlabelled (labelled_story value next root kids) ≡ unlabelled kids
   unlabelled-story kids = unlabelled-labelled value (moves_among value (seen root kids)) (root_spots root kids) 1 (start_with next) kids
 
@@ -276,6 +277,7 @@ module _ (value : Value) (next : ℕ) (root : Tag) where
       ∙ ap (λ ancestors. labelled value (moves_among value (seen root kids)) ancestors 1 (start_with next) (unlabelled kids)) (root_spots-bare root kids)
       ∙ labelled-bare value (moves_among value (seen root kids)) (root_spots root kids) 1 (start_with next) kids
 
+  -- the next number after a story depends on no label
   pub story_next-bare : (kids : Nodes) → next_after_story value next (unlabelled_tag root) (unlabelled kids) ≡ next_after_story value next root kids
   story_next-bare kids =
       ap (λ moves. (numbering_after value moves (root_spots (unlabelled_tag root) (unlabelled kids)) 1 (start_with next) (unlabelled kids)).next) (moves-bare value root kids)
