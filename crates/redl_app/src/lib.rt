@@ -5,6 +5,7 @@
 //! What each command writes is defined in `redl_commands` and `redl_commands_shown`, and made in the five crates of commands above
 //! these.
 //! Real files and streams are made by the program above.
+//! Its tests are in `redl_app_tests`, and `redl_rows` runs whole calls with what each of them must write.
 #![tactic(auto)]
 
 mod answers;

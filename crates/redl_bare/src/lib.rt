@@ -4,6 +4,7 @@
 //! Read `put_bare`, `specs/Units.antt` for the units of a document, `specs/Marks.antt` for who changed them, and `specs/BareText.antt`
 //! for how both are written. It goes over each story once and takes no memory.
 //! Numbers, the order of stories, and what is decided, are left to the crates below and above.
+//! Its tests are whole calls, in the rows of `redl_rows`.
 #![tactic(auto)]
 
 mod escape;

@@ -4,6 +4,7 @@
 //! Each command has a module with one public call, and read `report_package` first. A call promises what its definition in
 //! `redl_commands_shown` says of the files that it names, or that the first cause of a refusal came before, and which formats it
 //! takes.
+//! Its tests are whole calls, in the rows of `redl_rows`.
 #![tactic(auto)]
 
 mod list;

@@ -2,6 +2,7 @@
 //!
 //! `resume_package` promises what `redl_commands_shown` defines of the files that it names, or that the first cause of a refusal came before.
 //! It is the longest of the commands that write journals, so it is proved beside them.
+//! Its tests are whole calls, in the rows of `redl_rows`.
 #![tactic(auto)]
 
 mod resume;

@@ -3,6 +3,12 @@
 //! `resume` takes the first sitting and drops its tree, `resume_on` looks whether the second package is what was left,
 //! `take_second` takes the second sitting and drops its package, and `conclude` compares what both come to. The first package is read
 //! again for that, so that no more than one tree is there at a time.
+//!
+//! The first sitting leaves its package, as the journals know it, the book of what it decided, and what it wrote as a text.
+//! It also leaves the numbers of all elements of that, part by part (4 bytes an element). The text is compared with the bytes of the
+//! second package, and goes. Both packages have the same elements in the same order, so the place of an element gives its number
+//! in both (`redl_sittings`). The list of first numbers is filled from the last element on, so of several elements of one revision
+//! the first one counts. A text that was read once can fail the second time for memory alone.
 
 ghost use Rattle.std.specs.Prelude.{◌≡◌, ◌<◌, ◌^◌, ◌++◌, ◌∷◌, All, IsUtf8, IfOk, Ok, length, map};
 ghost use Rattle.std.specs.Str.{bytes_eq};
@@ -197,7 +203,7 @@ fn resume_with<'a, 'b, F: Shelf>(
     conclude(alloc, document, refused, joined, bytes)
 }
 
-// What a first sitting that decided this book and left these numbers comes to with a second one, over the package with this text.
+// Joins a finished first sitting with the second one, over the package with this text.
 fn take_second<'a, F: Shelf>(
     alloc: Global,
     decided: Book,

@@ -2,6 +2,7 @@
 //!
 //! `make_sample` promises what `redl_commands` defines. The session keeps an editor, which follows each entry; no other command needs
 //! one, so the others are in crates that are proved before the editor is.
+//! Its tests are whole calls, in the rows of `redl_rows`.
 #![tactic(auto)]
 
 mod sample;

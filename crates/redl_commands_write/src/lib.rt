@@ -2,6 +2,7 @@
 //!
 //! Each command has a module with one public call, and read `settle_package` or `write_package` first. A call promises what its definition in
 //! `redl_commands` says of the files that it names, or that the first cause of a refusal came before.
+//! Its tests are whole calls, in the rows of `redl_rows`.
 #![tactic(auto)]
 
 mod choices;

@@ -2,6 +2,7 @@
 //! Read `Editor::new` first, then `Editor::set_many`. Contracts see an editor as the package's original nodes and the say of each
 //! revision (`specs/Documents.antt`): each lent leaf is the present leaf under these says, and what is written is the pass.
 //! One story is kept by `redl_leaves`; which says the reviewers' verdicts come to is left to the crates above.
+//! Its tests are in `redl_calls_tests`.
 #![tactic(auto)]
 
 mod bulk;

@@ -3,6 +3,7 @@
 //! Both are definitions: `specs/Pieces.antt` says which pieces may stand where, and `specs/ScanPieces.antt` how one is read. That a
 //! piece is read exactly where the grammar has one is in `proofs/Pieces.antt`, for all crates above. The code that reads is in the
 //! crate above.
+//! Its tests are in `redl_text_tests`.
 #![tactic(auto)]
 
 mod laws;

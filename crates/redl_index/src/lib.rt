@@ -6,6 +6,7 @@
 //! `find_markers` lists the markers of moves in one story, which `redl_moves` pairs, and where its paragraphs end.
 //! A number is what a reviewer's decision names, so the crates above speak of revisions by number alone.
 //! What a decision does is left to the crates above.
+//! Its tests are in `redl_tree_tests`.
 #![tactic(auto)]
 
 mod find;

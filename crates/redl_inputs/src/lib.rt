@@ -3,6 +3,7 @@
 //! Read `open` first: it gives the session over a package with the entries of journals, as `specs/Admission.antt` defines it.
 //! Each step of a call cites `ReadsFiles` or `Reads` of `specs/Reading.antt`: it made what was due by the files, or failed.
 //! What a command writes, and how a call ends, is left to the layer above.
+//! Its tests are whole calls, in the rows of `redl_rows`.
 #![tactic(auto)]
 
 mod admitted;

@@ -4,6 +4,7 @@
 //! A book keeps that list in blocks (`blocks`, `entry_list`), and for each revision the words that count (`latest`,
 //! `by_revision`), which name a reviewer by a number (`numbers`).
 //! `redl_journal` reads and writes the entries.
+//! Its tests are in `redl_text_tests`.
 #![tactic(auto)]
 
 mod blocks;

@@ -5,6 +5,7 @@
 //! the second one all that is left (`ROWS`), and where else the name of an author stands. `lines` promises the finds of each fact
 //! in their order, where neighbours in one part with one value are one line. Which revisions a package has, how their members are
 //! marked, and the texts of the lines are left to other crates.
+//! Its tests are whole calls, in the rows of `redl_rows`.
 #![tactic(auto)]
 
 mod fact;

@@ -5,6 +5,7 @@
 //! `TextFormat`, `TabFormat`, `JsonFormat`, `WordsFormat` and `FullFormat` are the formats of the program: lines or an array of rows, with a
 //! `Piece` for each.
 //! Which revisions there are and what was decided on them is left to the crates below.
+//! Its tests are in `redl_listing_tests`.
 #![tactic(auto)]
 
 mod format;

@@ -4,6 +4,7 @@
 //! Read `put_marked`, and `specs/MarkedText.antt` for what it puts. It goes over the original once, makes no tree and takes no
 //! memory. `each_member_has_its_sign` states that no revision with a member is left out.
 //! Which revisions there are, and what is decided on them, is left to the crates below and above.
+//! Its tests are whole calls, in the rows of `redl_rows`.
 #![tactic(auto)]
 
 mod idle;

@@ -2,6 +2,7 @@
 //! `is_text` tests the characters of the whole input, and `next_piece` then reads one piece after the other.
 //! `next_piece` reads a piece exactly where the grammar (`redl_grammar`) has one at the start.
 //! Namespaces, which tags match, and that there is one root are left to the crate above.
+//! Its tests are in `redl_text_tests`.
 #![tactic(auto)]
 
 mod attribute;

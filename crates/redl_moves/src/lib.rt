@@ -4,6 +4,7 @@
 //! memory, which move a marker is of and which move is open at a position (ECMA-376 Part 1, 17.13.5.23 to 17.13.5.28; that
 //! ranges are paired by their names is our own rule).
 //! `pair` alone lists the paired moves. Finding the markers of a story is left to the crates above.
+//! Its tests are in `redl_tree_tests`.
 #![tactic(auto)]
 
 mod before;

@@ -2,6 +2,7 @@
 //! Read `Package::make` first: it takes the nodes exactly if they have the shape, and otherwise gives the first cause.
 //! A package always has the shape, each of its parts has a name in UTF-8, and its text is that of its nodes.
 //! The crates above decide which elements of a story are revisions, and note it with `change_labels`.
+//! Its tests are in `redl_tree_tests`.
 #![tactic(auto)]
 
 mod elements;

@@ -22,6 +22,7 @@
 //!
 //! Read `Outline` first, then `package`; small journals are in `journals.rt`. It is a crate for tests alone: `redl_tree_tests` tests it, and no contract says
 //! what it makes.
+//! Its tests are in `redl_tree_tests`.
 #![tactic(auto)]
 
 mod journals;

@@ -1,4 +1,5 @@
 //! What nodes become: their text on a sink, and copies of them.
+//! Its tests are in `redl_tree_tests`.
 #![tactic(auto)]
 
 mod copy;

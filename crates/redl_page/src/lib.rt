@@ -4,6 +4,7 @@
 //! walk and without memory; no revision is left out. What it puts is a list of pieces, in which a text from outside is written
 //! escaped.
 //! What decides, saves and looks well is the skin's, which the program brings.
+//! Its tests are in `redl_listing_tests`.
 #![tactic(auto)]
 
 mod changes;

@@ -3,6 +3,7 @@
 //!
 //! Read `Piece` first, then `group`. Its clauses cite the definition of `specs/Decisions/Groups.antt` of `redl_tree`, and hold of any
 //! chain. Which paragraphs are cut, and where a chain begins and ends, is left to the crates above.
+//! Its tests are in `redl_pass_tests`.
 #![tactic(auto)]
 
 mod grouping;

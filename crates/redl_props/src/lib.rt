@@ -3,6 +3,7 @@
 //!
 //! Read `restore` first. Its clause cites the table of `specs/Decisions/Restored.antt` of `redl_tree`.
 //! Which change is rejected, and where its former kids are, is left to the crates above.
+//! Its tests are in `redl_pass_tests`.
 #![tactic(auto)]
 
 mod properties;

@@ -3,6 +3,7 @@
 //! A package that keeps them all is sound: whatever is decided, what the decision leaves is a document.
 //! `Keeper` tells the same of a story in a visit that others may share. Which elements are revisions is told by `Around` of
 //! `redl_tree`; what a decision does is left to the crates above.
+//! Its tests are in `redl_tree_tests`.
 #![tactic(auto)]
 
 mod attributes;

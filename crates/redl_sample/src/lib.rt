@@ -3,6 +3,7 @@
 //!
 //! Read `sample_package` and `sample_journal` first: each gives exactly what `specs/` defines for its number. The layer
 //! above runs them through a session, and puts the `Summary`.
+//! Its tests are in `redl_calls_tests`.
 #![tactic(auto)]
 
 mod block;

@@ -2,6 +2,7 @@
 //! `Session::start` takes a sound package with its index; `admit` and `admit_many` put entries into its book or refuse them.
 //! The says are always those of the book's verdicts, and what is written is the pass under them: a sound package again.
 //! `redl_join` keeps the book, `redl_resolve` makes the pass; reading journals and telling of refusals is left to the crates above.
+//! Its tests are in `redl_calls_tests`.
 #![tactic(auto)]
 
 mod admission;

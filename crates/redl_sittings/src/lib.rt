@@ -5,6 +5,7 @@
 //! the first document of the books of both sittings. Each has two halves, for a caller that keeps one package at a time:
 //! `numbers_by_part` and `first_numbers`, `decided` and `add_second`.
 //! Whether both sittings come to the same document is left to the layer above.
+//! Its tests are in `redl_pass_tests`.
 #![tactic(auto)]
 
 mod along;

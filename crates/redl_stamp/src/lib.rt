@@ -2,6 +2,7 @@
 //! `read_stamp` takes a tag's tail, which is all between its name and its `>`, and gives the four at once.
 //! A value is that of the first attribute with its local name, decoded; a date is read exactly if it has the right form.
 //! The crates above decide what a revision is and which elements have a stamp.
+//! Its tests are in `redl_text_tests`.
 #![tactic(auto)]
 
 mod digits;

@@ -2,6 +2,7 @@
 //!
 //! Read `view`. It promises the plain text of `specs/PlainText.antt` of what the pass leaves, and writes it in one walk over
 //! the original: it makes no tree and takes no memory. How a program shows a text is left to its reader.
+//! Its tests are in `redl_tree_tests`.
 #![tactic(auto)]
 
 mod idle;

@@ -1,7 +1,10 @@
 //! The walk over the nodes of a story. It puts what the pass of the nodes would show, and makes no tree.
 //!
-//! A paragraph's end is decided at its end tag, when all that it takes up was walked: what follows it in the original is
-//! known from the list, and whether it would hold an element is what the walks answer.
+//! What a paragraph shows goes out as it is read; only its newline is in question, and that is due at its end tag. Whether the
+//! paragraph joins the next one, or may vanish before a table, depends on the tags of later siblings alone. So the walk looks
+//! ahead to the next thick node, and each node is read at most twice. Whether the joined paragraph has content is known only
+//! at its end, and the walks answer it. A paragraph that vanishes leaves bytes of a block list, which show nothing, so nothing
+//! that was put has to be taken back.
 
 ghost use Rattle.std.specs.Prelude.{◌≡◌, ◌||◌, [], None, true, false, IfOk, if◌then◌else◌};
 ghost use Rattle.std.specs.Option.{option_map};

@@ -1,3 +1,4 @@
+-- Each command makes what the outcome says: an answer for each arm, since a command has its own definition.
 use Rattle.redl_commands.specs.Views.{writing_view}
 use Rattle.redl_inputs.proofs.ReadLaws.{reads_nothing}
 use Rattle.redl_inputs.specs.Views.{result_view}

@@ -1,3 +1,4 @@
+-- How many steps the stories cost: the same sum at the end and at each of two places where memory can run out.
 use Rattle.std.proofs.Common.{◌<◌, List, Vec, length, get_or, sym, subst, ap, arith}
 use Rattle.std.specs.Global.{Global}
 use Rattle.redl_leaves.specs.declared.stepping.Made.{Made}

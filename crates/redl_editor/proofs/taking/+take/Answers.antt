@@ -1,3 +1,4 @@
+-- Taking the stories out of nodes leaves them empty, one after another: the loop keeps what is before and after it.
 use Rattle.std.proofs.Common.{◌+◌, ◌<◌, ◌≤◌, ◌^◌, ◌++◌, length, take, drop, sym, ap, subst, ◌∙◌, arith}
 use Rattle.std.proofs.lemmas.List.{take_more_set, drop-set-lt, take_all, length-set, get_or-set_other}
 use Rattle.redl_tree.specs.Model.Count.{count, item_count}

@@ -1,3 +1,4 @@
+-- What is written is the text with each story as it is now. It is long because a sink can fail before, in and after an element.
 use Rattle.std.proofs.Common.{◌≡◌, ◌+◌, ◌++◌, ◌∷◌, ◌&&◌, List, [], false, refl, sym, ap, ◌∙◌, drop, map, arith}
 use Rattle.std.proofs.lemmas.List.{append-nil}
 use Rattle.redl_io.proofs.Puts.{puts_then, puts_fails, so_far_begins, so_far_goes_on, so_far_stops, so_far_ends}

@@ -1,4 +1,4 @@
--- Each node tells after those before it.
+-- Each node tells after those before it. It is long because a member tells its words and, as a paragraph, what is around it.
 use Rattle.std.proofs.Common.{◌≡◌, ◌<◌, ◌≤◌, ◌∙◌, ◌+◌, ◌-◌, ◌++◌, ℕ, zero, suc, List, [], ◌∷◌, append-nil, drop, length, take, refl, sym, ap, subst, arith, false, true}
 use Rattle.std.proofs.Math.ListN.{set}
 use Rattle.std.proofs.lemmas.Option.{slice_get_read}

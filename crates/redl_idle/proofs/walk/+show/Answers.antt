@@ -1,3 +1,4 @@
+-- What a walk of a kept text shows is the fold over its nodes. It is long because each step can end, fail, or meet a tag or a text.
 use Rattle.std.proofs.Common.{◌≡◌, ◌∙◌, ◌++◌, [], length, append-nil, arith, sym, ap, subst, refl, Some, Ok}
 use Rattle.redl_idle.specs.Takes.{Takes}
 use Rattle.redl_idle.proofs.TakeLaws.{takes_then, takes_fails, takes_as}

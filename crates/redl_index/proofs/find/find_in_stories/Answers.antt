@@ -1,3 +1,4 @@
+-- The revisions found in the stories so far are those of the index so far. It is long because a part is a story or not.
 use Rattle.std.proofs.Common.{◌≡◌, ◌∙◌, ◌+◌, ◌++◌, ◌∷◌, ◌<◌, ◌≤◌, ap, sym, List, length, map, Some, None, option_to_list, get_or, arith, rules}
 use Rattle.std.proofs.lemmas.List.{append-nil}
 use Rattle.std.proofs.lemmas.Option.{slice_get-get_or}

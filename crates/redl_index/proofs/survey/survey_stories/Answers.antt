@@ -1,3 +1,4 @@
+-- What is known of the stories so far, part by part; a part that is no story adds nothing.
 use Rattle.std.proofs.Common.{◌∙◌, ◌<◌, ◌≤◌, length, ap, arith}
 use Rattle.redl_opc.specs.Elements.{element_of}
 use Rattle.redl_opc.specs.Shape.{parts_of}

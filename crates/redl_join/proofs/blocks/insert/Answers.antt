@@ -1,3 +1,4 @@
+-- An entry is in the blocks afterwards, once and in its place: at the end, in a block, or in a block that is split.
 use Rattle.std.proofs.Common.{sym, ap, ◌∙◌}
 use Rattle.std.specs.Prelude.{not}
 use Rattle.redl_io.proofs.Front.{on_err}

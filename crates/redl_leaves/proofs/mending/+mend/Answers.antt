@@ -1,3 +1,4 @@
+-- After a change of a leaf each container on the way to it counts and says what it did before, or what the change makes of it.
 use Rattle.std.proofs.Common.{◌≡◌, ◌<◌, ◌≤◌, ◌-◌, ◌^◌, ◌∷◌, ◌++◌, length, get_or, take, drop, sym, ap, subst, ◌∙◌, arith}
 use Rattle.std.proofs.lemmas.List.{take_all, take_at, length-drop}
 use Rattle.redl_leaves.proofs.MendLaws.{mend-here, mend-numbers, mend-beyond, mend-end, living-within, numbers-retallied, owned-retallied, shifted-is, same-tally}

@@ -1,3 +1,4 @@
+-- What is split of nodes stands for the nodes. It is long because a node is a container, a paragraph, thick, thin or idle.
 use Rattle.std.proofs.Common.{◌≡◌, ◌<◌, ◌+◌, ◌^◌, ◌∷◌, ◌++◌, [], true, ◌&&◌, sym, ap, ◌∙◌, arith, if◌then◌else◌}
 use Rattle.std.proofs.lemmas.List.{nil_from_length}
 use Rattle.std.specs.Vec.Iter.{into_iter_items}

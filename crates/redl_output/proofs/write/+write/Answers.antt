@@ -1,3 +1,4 @@
+-- What is written is the text of the nodes. It is long because each of four calls has an answer for a failed sink.
 use Rattle.std.proofs.Common.{◌≡◌, [], arith, refl, sym, ap, ◌∙◌, drop, ◌+◌}
 use Rattle.redl_io.proofs.Puts.{puts_then, puts_fails, so_far_begins, so_far_goes_on, so_far_stops, so_far_ends}
 use Rattle.redl_tree.specs.Model.Nodes.{no_nodes, Empty, End}

@@ -1,3 +1,4 @@
+-- What a walk puts are the pieces of its nodes. It is long because each of three calls has an answer for a failed sink.
 use Rattle.std.proofs.Common.{arith, ap, sym, ◌∙◌, drop, ◌+◌, ◌++◌}
 use Rattle.redl_io.proofs.Puts.{puts_then, puts_fails, so_far_begins, so_far_goes_on, so_far_stops, so_far_ends}
 use Rattle.redl_shown.specs.Shown.{shown}

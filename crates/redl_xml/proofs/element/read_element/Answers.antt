@@ -1,3 +1,4 @@
+-- An element is read as the fold over its pieces says. It is long because a turn can fail, end or go on, each within the limits.
 use Rattle.std.proofs.Common.{◌≡◌, ◌≢◌, ◌≤◌, ◌+◌, ◌∙◌, ap, refl, subst, sym, ℕ, Some, Err, length, arith}
 use Rattle.std.proofs.lemmas.Result.{err_from_is_err_and}
 use Rattle.redl_markup.specs.declared.error.MarkupError.{MarkupError}

@@ -1,3 +1,4 @@
+-- After setting many says the editor holds the same package under them. It is long because its invariant is stated field by field.
 use Rattle.std.proofs.Common.{◌≡◌, ◌∙◌, List, All, length, map, sym, subst, ap, arith}
 use Rattle.std.proofs.lemmas.List.{with_items_is}
 use Rattle.std.specs.List.Sorted.{IsNonDecreasingBy}

@@ -1,3 +1,4 @@
+-- The tags that close a shape are those of its definition: an answer for each shape, by its name.
 use Rattle.std.proofs.Common.{refl}
 use Rattle.redl_page_stories.proofs.shape.Shape.closing.Goals as goal
 
