@@ -17,7 +17,7 @@ use Rattle.redl_excerpts.proofs.TellLaws.{slice_get-here, slice_get-elsewhere, w
 
 -- ---- one excerpt
 
--- once a member inside told, what was put away comes back, and what stands behind is that of the last one
+-- once a member inside told, what was put away comes back, and what comes after it is that of the last one
 closed-begun : (words : Kept) (id : Option (List ℕ)) (before behind : List ℕ) (away : Away) (end : List ℕ) (mentions : List Mention)
     → closed (told_all (record { words = words; id = id; before = before; behind = behind; begun = true }) mentions) away end
     ≡ told_all (record { words = words; id = away.id; before = away.before; behind = behind; begun = true }) mentions

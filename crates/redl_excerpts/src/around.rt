@@ -22,7 +22,7 @@ pub(crate) struct Away {
 }
 
 impl Excerpt {
-    /// A member tells of what it holds, which begins at this place of the line, but for what stands behind that: this is told at
+    /// A member tells of what it holds, which begins at this place of the line, but for what comes after that: this is told at
     /// its end, by `end_around`. Until then `begun` says whether a member inside it told. `Err` means out of memory.
     pub(crate) fn begin_around(
         &mut self,

@@ -20,7 +20,7 @@ pub struct Detail {
     pub words: Text,
     /// What stands before them in the same paragraph, at most 40 characters.
     pub before: Text,
-    /// What stands behind them in the same paragraph, at most 40 characters.
+    /// What comes after them in the same paragraph, at most 40 characters.
     pub after: Text,
     /// The own id of the revision's first element, where it has one.
     pub id: Option<Text>,

@@ -24,9 +24,9 @@ pub struct Excerpt {
     pub words: Phrase,
     /// The own id of its first member, where that has one.
     pub id: Option<Text>,
-    /// What stands before its first member in the same paragraph, at most 40 characters.
+    /// What comes before its first member in the same paragraph, at most 40 characters.
     pub before: Text,
-    /// What stands behind its last member in the same paragraph, at most 40 characters.
+    /// What comes after its last member in the same paragraph, at most 40 characters.
     pub behind: Text,
     /// Whether a member told.
     pub begun: bool,

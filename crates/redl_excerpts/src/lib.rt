@@ -1,4 +1,4 @@
-//! Excerpts: a numbered package goes in, and for each revision its words, what stands before and behind them, and who said what come
+//! Excerpts: a numbered package goes in, and for each revision its words, what comes before and after them, and who said what come
 //! out.
 //!
 //! Read `excerpts` first. It walks the stories once, in time that grows with the package, and keeps of each revision at most 200

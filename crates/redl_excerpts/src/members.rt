@@ -175,7 +175,7 @@ fn tells_of_kids(moved: bool, elem: &Elem) -> bool
     }
 }
 
-// A member with others inside it tells: its words before they tell, and what stands behind it once its end is known. So what it
+// A member with others inside it tells: its words before they tell, and what comes after it once its end is known. So what it
 // holds is not gone over for that.
 #[cycle(members)]
 fn tell_around(

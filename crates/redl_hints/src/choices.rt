@@ -54,7 +54,7 @@ fn is_option(word: &Text) -> bool {
     word.as_bytes().starts_with(b"--")
 }
 
-// Whether the choice of an option stands behind another one too.
+// Whether the choice of an option is given after another one too.
 fn has_another_word(words: &[Text], pair: &[Text]) -> bool {
     match pair {
         [option, choice] if is_word(option) => words

@@ -12,7 +12,7 @@ use Rattle.redl_formats.specs.Fields.{newline}
 use Rattle.redl_terminal.specs.Masks.{hidden_length}
 use Rattle.redl_listing.specs.Words.{dots, numbered_columns, quoted, words_columns, words_row}
 
--- a disputed deletion: both neighbours are cut, and who said what stands behind
+-- a disputed deletion: both neighbours are cut, and who said what comes last
 deletion : Row
 deletion = record {
   number = 32;

@@ -9,7 +9,7 @@ use std::test::Fail;
 // Fifty characters.
 const FIFTY: &str = "01234567890123456789012345678901234567890123456789";
 
-// What is told of each revision of a body: what stands before its words, the words in brackets, what stands behind, and a newline.
+// What is told of each revision of a body: what comes before its words, the words in brackets, what comes after them, and a newline.
 fn told(alloc: Global, body: &str) -> Result<Vec<u8>, Fail> {
     let text = document_package(alloc, "/word/document.xml", body)?;
     let (package, index) = numbered(alloc, text.as_bytes())?;

@@ -1,4 +1,4 @@
-//! What stands behind the opening of a paragraph, of a cell and of a symbol.
+//! What comes after the opening of a paragraph, of a cell and of a symbol.
 
 ghost use Rattle.std.specs.Prelude.{◌≡◌, Some, option_map};
 ghost use Rattle.redl_io.specs.Sink.{Puts};

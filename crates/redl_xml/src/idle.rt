@@ -49,12 +49,14 @@ pub(crate) struct Passed<'a> {
     pub(crate) next: Option<(Piece<'a>, &'a [u8])>,
 }
 
-/// What one try leaves for the next one: how many bytes were left where it ended, and its lists, of the names of the open elements
-/// and of those of a tag's attributes.
+/// What tries share: how many bytes were left where the last one ended, and two lists to use again.
 #[derive(Drop)]
 pub(crate) struct Tries<'a> {
+    /// How many bytes were left where the last one ended.
     pub(crate) left: usize,
+    /// The names of the open elements.
     names: Vec<Name<'a>>,
+    /// The names of a tag's attributes.
     pub(crate) list: Vec<Name<'a>>,
 }
 

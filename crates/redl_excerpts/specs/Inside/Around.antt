@@ -13,7 +13,7 @@ use Rattle.redl_excerpts.specs.declared.line.Place.{Place}
 use Rattle.redl_excerpts.specs.declared.excerpt.Excerpt.{Excerpt}
 use Rattle.redl_excerpts.specs.Phrases.{heard}
 
--- A member told these words. What the first member tells is put away, what stands behind it is not told so far, and `begun` says whether
+-- A member told these words. What the first member tells is put away, what comes after it is not told so far, and `begun` says whether
 -- a member inside it told.
 abbrev pub opened : Excerpt → List ℕ → Excerpt
 opened excerpt words = record {

@@ -29,7 +29,7 @@ at-left [] ys k x at = absurd (cc)
 at-left (y ∷ xs) ys zero x at = at
 at-left (y ∷ xs) ys (suc k) x at = at-left xs ys k x at
 
--- what is in the second list stands behind the first
+-- what is in the second list comes after the first
 pub at-right : {X : Type 0} (xs ys : List X) (k : ℕ) (x : X) → slice_get ys k ≡ Some x → slice_get (xs ++ ys) (length xs + k) ≡ Some x
 at-right [] ys k x at = let is : 0 + k ≡ k = omega arith in ap (slice_get ys) is ∙ at
 at-right (y ∷ xs) ys k x at =

@@ -1,4 +1,4 @@
--- The entries of the journals so far are admitted, or the first cause is given: of a file, of a journal, or of want of memory.
+-- The entries of the journals so far are admitted, or the first cause is given: of a file, of a journal, or that memory ran out.
 use Rattle.std.proofs.Common.{◌+◌, ◌-◌, ◌∷◌, [], drop, take, IsUtf8, arith, ap, sym, ◌∙◌, refl, subst}
 use Rattle.std.proofs.lemmas.List.{drop_all, take_all, take-append-drop}
 use Rattle.std.proofs.lemmas.List.Elements.{All-get_or}
