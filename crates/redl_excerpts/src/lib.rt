@@ -6,7 +6,7 @@
 //! beginning (`Phrase`), the whole line of a paragraph (`Line`) or a place in it (`Place`). `package_details` is above it: a detail
 //! has the texts of an excerpt in UTF-8 and the last words on the revision.
 //! How a listing shows them is left to the crates above.
-//! Its tests are in `redl_listing_tests`.
+//! Its tests are whole calls, in the rows of `redl_rows`.
 #![tactic(auto)]
 
 mod around;

@@ -5,7 +5,7 @@
 //! `TextFormat`, `TabFormat`, `JsonFormat`, `WordsFormat` and `FullFormat` are the formats of the program: lines or an array of rows, with a
 //! `Piece` for each.
 //! Which revisions there are and what was decided on them is left to the crates below.
-//! Its tests are in `redl_listing_tests`.
+//! Its tests are whole calls, in the rows of `redl_rows`.
 #![tactic(auto)]
 
 mod format;

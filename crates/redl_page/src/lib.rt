@@ -4,7 +4,7 @@
 //! walk and without memory; no revision is left out. What it puts is a list of pieces, in which a text from outside is written
 //! escaped.
 //! What decides, saves and looks well is the skin's, which the program brings.
-//! Its tests are in `redl_listing_tests`.
+//! Its tests are whole calls, in the rows of `redl_rows`.
 #![tactic(auto)]
 
 mod changes;

@@ -4,7 +4,7 @@
 //! Read `put_document`. It puts the list of pieces of `specs/Document.antt` in one walk and without memory, and no member of a
 //! revision is left out.
 //! The list of the revisions, the reviewers, and what is round all of it is left to `redl_page`.
-//! Its tests are in `redl_listing_tests`.
+//! Its tests are whole calls, in the rows of `redl_rows`.
 #![tactic(auto)]
 
 mod emphasis;

@@ -5,7 +5,7 @@
 //! `report` puts such lines into a format of a list of boxed ones. It rests on what `ReportFormat` promises, whatever boxes the
 //! caller made; `TextReport`, `JsonReport` and `TableReport` are three.
 //! What a book decides on a revision is left to the crates below.
-//! Its tests are in `redl_listing_tests`.
+//! Its tests are whole calls, in the rows of `redl_rows`.
 #![tactic(auto)]
 
 mod authors;
