@@ -3,7 +3,7 @@
 //! Read `tell` first: it writes the lines of an end, which `specs/Ends.antt` and `specs/Lines.antt` define.
 //! The layer above makes the end, and its status is a function of it alone. Names in the lines are masked for a terminal.
 //! When a failure comes, and which of several counts, is not said here. A refused entry has the cause that a session gave.
-//! Its tests are in `redl_calls_tests`.
+//! Its tests are whole calls, in the rows of `redl_rows`.
 #![tactic(auto)]
 
 mod causes;

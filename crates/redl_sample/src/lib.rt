@@ -3,7 +3,7 @@
 //!
 //! Read `sample_package` and `sample_journal` first: each gives exactly what `specs/` defines for its number. The layer
 //! above runs them through a session, and puts the `Summary`.
-//! Its tests are in `redl_calls_tests`.
+//! Its tests are whole calls, in the rows of `redl_rows`.
 #![tactic(auto)]
 
 mod block;

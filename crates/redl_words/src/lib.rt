@@ -3,7 +3,7 @@
 //! there is none. Which words each command has is a relation in `specs/Commands.antt`. `given_words` copies the words that the system
 //! gives.
 //! What a command does is left to the crate above.
-//! Its tests are in `redl_calls_tests`.
+//! Its tests are whole calls, in the rows of `redl_rows`.
 #![tactic(auto)]
 
 mod command;
