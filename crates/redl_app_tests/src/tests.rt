@@ -1,4 +1,4 @@
-//! Tests of what no clause says: that calls succeed with ample memory, and their limits, faults and refusals, by hand.
+//! Tests of what no clause says: that calls succeed with ample memory, and their limits and faults, by hand.
 
 mod asked;
 mod calls;
@@ -6,6 +6,4 @@ mod faults;
 mod formats;
 mod hostile;
 mod limits;
-mod refusals;
-mod sittings;
 mod sizes;

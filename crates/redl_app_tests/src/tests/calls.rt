@@ -29,12 +29,6 @@ pub(super) const INSERTED: &str = "<w:p><w:ins{A}><w:r><w:t>a</w:t></w:r></w:ins
 
 pub(super) const INSERTED_LIVE: &str = "<w:p><w:r><w:t>a</w:t></w:r></w:p>";
 
-pub(super) const USAGE: Want<'static> = Want {
-    status: Status::Usage,
-    bytes: b"",
-    lines: "redline: cannot read the command line\n",
-};
-
 /// The package of a body, in which `{A}` stands for the attributes of Ann's revision.
 pub(super) fn package(alloc: Global, body: &str) -> Result<Vec<u8>, AllocError> {
     let mut text = Vec::from_slice(alloc, FRONT)?;
