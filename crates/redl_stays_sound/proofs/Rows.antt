@@ -1,12 +1,16 @@
 -- Paragraphs by hand: which marks stay.
-use Rattle.std.proofs.Common.{◌≡◌, refl, List, [], ◌∷◌, map}
+use Rattle.std.proofs.Common.{◌≡◌, refl, List, [], ◌∷◌, map, Bool, true, false, codes}
 use Rattle.redl_stays_sound.specs.Decided.{decided}
 use Rattle.redl_stays_sound.specs.Kept.{kept_marks, marks}
+use Rattle.redl_stays_sound.specs.Settled.{has_no_role}
 use Rattle.redl_tree.proofs.Model.Build.{content, deleted_run, opened, run, tag_in}
 use Rattle.redl_tree.specs.Decisions.Pass.{pass}
-use Rattle.redl_tree.specs.Model.Nodes.{End, Nodes, Tag, ◌⊕◌}
+use Rattle.redl_tree.specs.Model.Nodes.{End, Nodes, Tag, element, no_nodes, ◌⊕◌}
 use Rattle.redl_tree.specs.Model.View.{Element}
-use Rattle.redl_tree.specs.declared.kinds.Kind.TheVariants.{Content}
+use Rattle.redl_tree.specs.Roles.Names.{of_w}
+use Rattle.redl_tree.specs.Rules.Tests.{everywhere}
+use Rattle.redl_tree.specs.declared.kinds.Kind.TheVariants.{Change, Content, Mark}
+use Rattle.redl_tree.specs.declared.kinds.Prop.TheVariants.{Run}
 use Rattle.redl_tree.specs.declared.kinds.Say.{Say}
 use Rattle.redl_tree.specs.declared.kinds.Say.TheVariants.{Accept, Keep, Reject}
 use Rattle.redl_tree.specs.declared.kinds.Space.TheVariants.{W}
@@ -61,3 +65,29 @@ row_two = (refl, refl)
 
 row_all : gone (Reject ∷ Accept ∷ Accept ∷ []) (insertion ∷ inner ∷ deletion ∷ [])
 row_all = (refl, refl)
+
+-- a paragraph whose end is deleted, with a change of the properties of its mark
+abbrev end_deleted : Tag
+end_deleted = record (of_w (codes "del")) { kind = Mark Del; rev = 1 }
+
+abbrev mark_changed : Tag
+mark_changed = record (of_w (codes "rPrChange")) { kind = Change Run; rev = 2 }
+
+abbrev paragraph : Nodes
+paragraph =
+    element (of_w (codes "p"))
+    (element (of_w (codes "pPr")) (element (of_w (codes "rPr")) (element end_deleted no_nodes (element mark_changed no_nodes no_nodes)) no_nodes) no_nodes)
+    no_nodes
+
+-- whether the root and what a pass leaves of the paragraph in it have no roles
+abbrev roles_are_gone : List Say → Bool
+roles_are_gone says = everywhere has_no_role [] (element (of_w (codes "body")) (pass says (of_w (codes "body") ∷ []) paragraph) no_nodes)
+
+row_both_rejected : roles_are_gone (Reject ∷ Reject ∷ []) ≡ true
+row_both_rejected = refl
+
+row_both_accepted : roles_are_gone (Accept ∷ Accept ∷ []) ≡ true
+row_both_accepted = refl
+
+row_one_open : roles_are_gone (Keep ∷ Accept ∷ []) ≡ false
+row_one_open = refl
