@@ -1,4 +1,4 @@
--- The clauses of `run`, each of the outcome of the call. It is long because there are eleven clauses and a call ends at three steps.
+-- The clauses of `run`, each of the outcome of the call. It is long because there are eighteen of them.
 use Rattle.std.proofs.Common.{◌≡◌, ◌∙◌, sym, ℕ, List}
 use Rattle.redl_outcome.proofs.LeftLaws.{leaves_package}
 use Rattle.redl_outcome.proofs.SittingLaws.{call_resumes}
