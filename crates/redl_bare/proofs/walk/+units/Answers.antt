@@ -1,4 +1,4 @@
--- A walk puts the units of its nodes. Six calls of one cycle have an answer each for their end and for a failed sink.
+-- A walk puts the units of its nodes. The calls of the cycle have an answer each for their end and for a failed sink.
 use Rattle.std.proofs.Common.{◌≡◌, ◌<◌, ◌+◌, arith, refl, ap, sym, subst, ◌∙◌, drop, IfSome}
 use Rattle.arrayvec.specs.ArrayVec.{array_vec_len}
 use Rattle.redl_tree.specs.Model.View.{nodes_of, item_of, tag_of, kids_of}

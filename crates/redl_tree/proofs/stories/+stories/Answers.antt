@@ -1,4 +1,4 @@
--- A change of the stories changes each of them, in their order, and nothing else. The loop keeps three facts for each kind of node.
+-- A change of the stories changes each of them, in their order, and nothing else. It is long because the loop keeps six facts.
 use Rattle.std.proofs.Common.{◌≡◌, ◌∷◌, ◌+◌, ◌<◌, ◌≤◌, List, get_or, length, set, take, drop, sym, ap, subst, ◌∙◌, arith}
 use Rattle.std.proofs.lemmas.List.{take_at, take_more_set, drop-set-lt, take_all, length-set, get_or-set_other}
 use Rattle.redl_tree.specs.Model.Count.{count, item_count}
