@@ -89,6 +89,11 @@ class Browser:
         pressed = [{"type": kind, "value": key} for key in text for kind in ("keyDown", "keyUp")]
         self.send("PerformActions", actions=[{"type": "key", "id": "keys", "actions": pressed}])
 
+    def keys_held(self, held, key):
+        """Presses a key while another one is held."""
+        pressed = [("keyDown", held), ("keyDown", key), ("keyUp", key), ("keyUp", held)]
+        self.send("PerformActions", actions=[{"type": "key", "id": "keys", "actions": [{"type": kind, "value": it} for kind, it in pressed]}])
+
     def spoken(self, selector):
         """The role and the name that a screen reader is told of each element that the selector finds."""
         found = [it[ELEMENT] for it in self.send("FindElements", using="css selector", value=selector)]

@@ -1,7 +1,10 @@
 """Documents, archives, journals and names that try to run something or to send something: nothing runs, and nothing leaves."""
+import http.server
 import os
 import struct
 import subprocess
+import threading
+import time
 import zlib
 
 import desk_dangers
@@ -19,9 +22,11 @@ def went_through(it, name):
     """Goes through all steps, and tells whether anything ran, was asked for or came in."""
     for step in ["others", "standing", "written", "save", "decide"]:
         it.step(step)
+        if step == "save":
+            it.press("#show-remains")
     for event in ["mouseover", "focus", "click"]:
         it.in_page("page.document.querySelectorAll('main *').forEach((it) => it.dispatchEvent(new page.Event(words[0])))", event)
-        it.run("document.querySelectorAll(':is(#others, #standing) :is(td, th, bdi, p, li, caption)').forEach((it) => it.dispatchEvent(new Event(arguments[0])))", event)
+        it.run("document.querySelectorAll(':is(#others, #standing, #remains) :is(td, th, bdi, p, li, caption)').forEach((it) => it.dispatchEvent(new Event(arguments[0])))", event)
     is_quiet = it.run(RAN) == [None, None, None] and it.requests() == [] and it.run(STRANGE) == 0
     told("nothing runs and nothing leaves: " + ascii(name)[:60], is_quiet, str([it.run(RAN), it.requests(), it.run(STRANGE)]))
 
@@ -136,6 +141,69 @@ def of_archives(driven):
         same("an archive with %s runs nothing" % name, [it.run(RAN)[0], it.requests()], [None, []])
 
 
+# Ways in which a page sends something to the address that is the first argument.
+SENDS = """
+const [place] = arguments, made = (what, properties) => document.body.append(Object.assign(document.createElement(what), properties));
+for (const send of [
+  () => fetch(place + "fetch", { mode: "no-cors" }),
+  () => [new XMLHttpRequest()].forEach((it) => (it.open("GET", place + "request"), it.send())),
+  () => (new Image().src = place + "image"),
+  () => new EventSource(place + "events"),
+  () => new WebSocket(place.replace("http", "ws") + "socket"),
+  () => navigator.sendBeacon(place + "beacon", "words"),
+  () => made("link", { rel: "stylesheet", href: place + "style" }),
+  () => made("link", { rel: "prefetch", href: place + "later" }),
+  () => made("iframe", { src: place + "frame" }),
+  () => made("video", { src: place + "video" }),
+  () => made("p", { innerText: "x", style: "background: url(" + place + "ground)" }),
+  () => made("object", { data: place + "object" }),
+]) {
+  try {
+    Promise.resolve(send()).catch(() => {});
+  } catch {}
+}
+"""
+
+
+class Heard(http.server.BaseHTTPRequestHandler):
+    """A server that only remembers what it is asked for."""
+
+    paths = []
+
+    def do_GET(self):
+        self.paths.append(self.path)
+        self.send_response(204)
+        self.end_headers()
+
+    do_POST = do_HEAD = do_OPTIONS = do_GET
+
+    def log_message(self, *_):
+        pass
+
+
+def sends_nothing(driven):
+    """A script in the desk that tries to send what it finds sends nothing, in the ways by which another page does."""
+    server = http.server.ThreadingHTTPServer(("127.0.0.1", 0), Heard)
+    threading.Thread(target=server.serve_forever, daemon=True).start()
+    place = "http://127.0.0.1:%d/" % server.server_port
+    blank = os.path.join(driven.folder, "blank.html")
+    with open(blank, "w", encoding="utf-8") as out:
+        out.write("<!DOCTYPE html><body>")
+    driven.open(blank)
+    driven.run(SENDS, place)
+    time.sleep(1)
+    told("another page sends", len(set(Heard.paths)) > 5, str(sorted(set(Heard.paths))))
+    it = Desk(driven)
+    it.drop(("contract.xml", example("contract.xml")))
+    time.sleep(0.5)
+    Heard.paths.clear()
+    it.run(SENDS, place)
+    it.in_page(SENDS.replace("arguments", "words").replace("document", "page.document"), place)
+    time.sleep(1)
+    same("the desk sends nothing, whatever is tried in it", Heard.paths, [])
+    server.shutdown()
+
+
 def another_tab(driven):
     """Two tabs with two documents: what is decided in one is not in the other."""
     it = Desk(driven)
@@ -153,4 +221,4 @@ def another_tab(driven):
     same("and the first tab keeps its own", [it.text("#name"), it.decisions()], ["contract.xml", ["3 accept"]])
 
 
-CASES = [pages_document, names_and_texts, dangerous_documents, of_archives, another_tab]
+CASES = [pages_document, names_and_texts, dangerous_documents, of_archives, another_tab, sends_nothing]

@@ -6,8 +6,9 @@ import pictures
 from desk_round import JOURNALS
 from desk_seen import Desk, example
 from page_looks import CONTRAST
-from page_seen import TAB, same, told
+from page_seen import ENTER, TAB, same, told, wait
 
+SHIFT, END = "\ue008", "\ue010"
 STEPS = ["decide", "others", "standing", "written", "save"]
 WIDE = "return [document.documentElement.scrollWidth, innerWidth]"
 FOCUS = """
@@ -20,6 +21,13 @@ def contract(driven):
     it = Desk(driven)
     it.drop(*[(name, example(name)) for name in ["contract.xml", *JOURNALS]])
     return it
+
+
+def seen(it, step):
+    """Goes to a step, and shows what is shown there when it is asked for."""
+    it.step(step)
+    if step == "save":
+        it.press("#show-remains")
 
 
 def looks(driven):
@@ -36,7 +44,7 @@ def looks(driven):
     for scheme in ["light", "dark"]:
         driven.look(1280, 800, scheme)
         for step in STEPS:
-            it.step(step)
+            seen(it, step)
             same("contrast of %s, %s" % (step, scheme), it.run(CONTRAST), [])
 
 
@@ -48,7 +56,7 @@ def sizes(driven):
         driven.look(width, height, "light", "", zoom)
         time.sleep(0.2)
         for step in STEPS:
-            it.step(step)
+            seen(it, step)
             wide = it.run(WIDE)
             told("nothing sticks out of %s, %d wide at %d00 %%" % (step, width, zoom), wide[0] <= wide[1], str(wide))
             high = it.run("return Math.min(...['decide', 'written'].map((it) => document.querySelector('#' + it + ' iframe').clientHeight).filter(Boolean), 9999)")
@@ -63,7 +71,7 @@ def by_keys(driven):
     driven.keys("\ue014")
     it.after()
     same("an arrow goes to the next step", it.run("return [document.activeElement.id, document.getElementById('others').hidden]"), ["tab-others", False])
-    driven.keys("\ue010")
+    driven.keys(END)
     it.after()
     same("End goes to the last step", it.run("return document.activeElement.id"), "tab-save")
     met = []
@@ -74,9 +82,39 @@ def by_keys(driven):
             break
         met.append(focus)
     names = [name for name, _ in met]
-    wanted = {"save-document", "save-journal", "save-joined", "save-text", "save-report", "save-listing", "go-on", "form", "view"}
+    wanted = {"save-document", "save-journal", "save-joined", "save-text", "save-report", "save-listing", "show-remains", "go-on", "form", "view"}
     told("the Tab key goes to all that can be pressed", wanted <= set(names), str(names))
     told("what has the keyboard is seen", all(is_seen for _, is_seen in met), str([name for name, is_seen in met if not is_seen]))
+
+
+def tabbed_to(it, wanted, presses):
+    """Presses Tab until what has the keyboard is wanted, by the beginning of its id; answers whether it came to that."""
+    for _ in range(60):
+        presses()
+        if it.run("return document.activeElement.id").startswith(wanted):
+            return True
+    return False
+
+
+def round_by_keys(driven):
+    """A whole round from the first screen to the saved document, with the keyboard alone."""
+    it = Desk(driven)
+    forth, back = (lambda: driven.keys(TAB)), (lambda: driven.keys_held(SHIFT, TAB))
+    told("Tab comes to the example", tabbed_to(it, "example", forth))
+    driven.keys(ENTER)
+    it.after()
+    same("which Enter opens", it.text("#count"), "49 changes")
+    told("Tab comes to the page of the document", tabbed_to(it, "page", forth))
+    for key in "jar":
+        driven.keys(key)
+    same("whose keys decide", [words.split(" ")[1] for words in it.decisions()], ["accept", "reject"])
+    told("Shift and Tab lead back to the steps", tabbed_to(it, "tab-", back))
+    driven.keys(END)
+    it.after()
+    told("End and Tab come to what saves", tabbed_to(it, "save-document", forth))
+    file = os.path.join(driven.folder, "contract.decided.xml")
+    driven.keys(ENTER)
+    told("and Enter saves the document", wait(lambda: os.path.exists(file) and os.path.getsize(file) > 0), it.text("#save-document-told"))
 
 
 def for_readers(driven):
@@ -131,4 +169,4 @@ def papers_picture(driven):
     pictures.is_of_now(driven, "desk.png", made)
 
 
-CASES = [looks, sizes, by_keys, for_readers, printed, papers_picture]
+CASES = [looks, sizes, by_keys, round_by_keys, for_readers, printed, papers_picture]

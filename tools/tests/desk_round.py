@@ -1,4 +1,5 @@
 """A whole round at the desk: opened, decided, joined, disputed, written, saved, and gone on with; each file is what the commands give."""
+import json
 import os
 import subprocess
 import time
@@ -48,6 +49,9 @@ def docx_round(driven):
     it = Desk(driven)
     said = it.give(docx)
     told("a .docx opens", "49 changes" in said, said)
+    if REDLINE:
+        shown = it.run("return document.getElementById('page').srcdoc")
+        same("it is seen as the program's page shows it", shown, output(REDLINE, "page", frozen, "--title", "contract.docx").decode())
     it.name("Dee Wood")
     for number, word in [(3, "accept"), (12, "reject"), (32, "reject")]:
         it.decide(number, word)
@@ -81,6 +85,7 @@ def standing(it):
     disputed = next(rows for caption, rows in cells if caption.startswith("Disputed"))
     same("the disputed changes are first, by number", [row[0] for row in disputed], ["12", "32", "33", "42", "43"])
     same("who is against whom", [disputed[1][4], disputed[1][5]], ["Ann Gray", "Bob Hay, Dee Wood"])
+    same("what stands around a change is in whole words", disputed[1][1], "The price is due within thirtyfourteen days of delivery. The Buyer…")
     people = next(rows for caption, rows in cells if caption.startswith("Reviewers"))
     same("each reviewer has a line", [row[0] for row in people], ["Ann Gray", "Bob Hay", "Cara Lee", "Dee Wood"])
     it.press("#tables td button, #tables th button")
@@ -137,6 +142,51 @@ def other_forms(driven):
     same("unused notes are left out of archives alone", it.run("return document.getElementById('drop-notes-label').hidden"), True)
     saved = it.saves("#save-document", "contract.accepted.xml")
     same("the package of the same", saved, unpacked(os.path.join(driven.folder, "contract.accepted.docm"), driven.folder))
+
+
+def remains(driven):
+    """What else is in the document is shown as it would be saved, before it is; and marks that nobody decides are told at once."""
+    it = Desk(driven)
+    it.drop(*[(name, example(name)) for name in ["contract.xml", *JOURNALS]])
+    it.step("save")
+    rows = "return [...document.querySelectorAll('#remains tbody tr')].map((row) => [...row.cells].map((cell) => cell.textContent))"
+    same("nothing of what else is in it is shown unasked", it.run(rows), [])
+    it.run("document.querySelector('input[name=how][value=accept]').click()")
+    it.press("#show-remains")
+    place = "/word/document.xml"
+    moves = [["marker of a move without its text", "1", "moveToRange" + end, place] for end in ("Start Cara Lee", "End")]
+    same("what else is in it, with all changes accepted", it.run(rows), [*moves, ["Track Changes is switched on", "1", "", "/word/settings.xml"]])
+    it.run("document.querySelector('input[name=how]').click()")
+    it.press("#show-remains")
+    if REDLINE:
+        found = json.loads(output(REDLINE, "left", os.path.join(EXAMPLES, "contract.written.xml"), "--format", "json"))
+        same("and as decided, what the program lists", [[int(row[1]), row[2], row[3]] for row in it.run(rows)], [[one["count"], one["value"], one["part"]] for one in found])
+    who = 'w:id="1" w:author="%s" w:date="2026-11-03T14:30:00Z"'
+    body = "<w:p><w:pPr><w:numPr><w:ins %s/></w:numPr></w:pPr><w:ins %s><w:r><w:t>a</w:t></w:r></w:ins></w:p><w:p/>" % (who % "Ann", who % "Bob")
+    said = it.drop(("numbered.xml", in_package(body).encode()))
+    told("a mark that nobody decides is told when it is opened", "1 mark is left in it that Redline doesn't decide" in said, said)
+    it.step("save")
+    it.saves("#save-document", "numbered.decided.xml")
+    told("and when it is saved", "1 mark is left in it" in it.text("#save-document-told"), it.text("#save-document-told"))
+    it.press("#show-remains")
+    told("and shown with its author", ["mark of a change that Redline doesn't decide", "1", "ins Ann", "/word/document.xml"] in it.run(rows), str(it.run(rows)))
+
+
+def locked_and_gone(driven):
+    """A locked change whose text went with what was around it is told when the document is saved."""
+    who = 'w:id="%d" w:author="%s" w:date="2026-11-03T14:30:00Z"'
+    inner = "<w:ins %s><w:del %s><w:r><w:delText>old</w:delText></w:r></w:del><w:r><w:t>new</w:t></w:r></w:ins>" % (who % (1, "Ann"), who % (2, "Bob"))
+    it = Desk(driven)
+    it.drop(("nested.xml", in_package("<w:p>%s</w:p><w:p/>" % inner).encode()))
+    it.step("others")
+    it.run("document.getElementById('locks').open = true")
+    it.after()
+    it.run("document.getElementById('lock-author').value = 'Bob'")
+    it.press("#lock-form button")
+    it.decide(1, "reject")
+    it.step("save")
+    it.saves("#save-document", "nested.decided.xml")
+    told("a locked change that went is told", "The locked change 2 went" in it.text("#save-document-told"), it.text("#save-document-told"))
 
 
 def unused_notes(driven):
@@ -245,4 +295,4 @@ def sent_along(driven):
     same("which are those", [it.text("#name"), it.text("#count"), it.text("#others-badge")], ["contract.xml", "49 changes", "1"])
 
 
-CASES = [package_round, docx_round, example_at_hand, other_forms, unused_notes, kept_at_the_desk, locks_and_ranks, second_sitting] + [sent_along] * bool(REDLINE)
+CASES = [package_round, docx_round, example_at_hand, other_forms, remains, locked_and_gone, unused_notes, kept_at_the_desk, locks_and_ranks, second_sitting] + [sent_along] * bool(REDLINE)

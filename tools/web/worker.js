@@ -90,8 +90,8 @@ const actions = {
 
   /**
    * Opens a .docx or a package as the document, under the name `document.xml`, and drops all other files. Where it is refused
-   * the document before stays. Answers whether it was a .docx, the size of the package, the line of `check`, and what `flatopc`
-   * told.
+   * the document before stays. Answers whether it was a .docx, the size of the package, what `check` wrote and its lines, and what
+   * `flatopc` told.
    * @param {Uint8Array} bytes
    * @param {{ tidy?: boolean }} options
    */
@@ -101,7 +101,8 @@ const actions = {
     kept.clear();
     kept.set(DOCUMENT, packageBytes);
     try {
-      return { isZip: isZip(bytes), size: packageBytes.length, line: done(["check", DOCUMENT]).out.text().trim(), said };
+      const { out, lines } = done(["check", DOCUMENT]);
+      return { isZip: isZip(bytes), size: packageBytes.length, line: out.text().trim(), lines, said };
     } catch (error) {
       kept.clear();
       before.forEach((it, name) => kept.set(name, it));

@@ -4,9 +4,9 @@
 const [DOCUMENT, WRITTEN, OWN] = ["document.xml", "written.xml", "your decisions"];
 
 /**
- * A document: its file, whether that was a .docx, how many changes it has, what was told of its archive, and whether the frame
- * shows it.
- * @typedef {{ name: string, bytes: Uint8Array, isZip: boolean, isTidy: boolean, count: number, said: string[], isShown: boolean }} Opened
+ * A document: its file, whether that was a .docx, how many changes it has, what its check noted, what was told of its archive, and
+ * whether the frame shows it.
+ * @typedef {{ name: string, bytes: Uint8Array, isZip: boolean, isTidy: boolean, count: number, note: string, said: string[], isShown: boolean }} Opened
  * @type {Opened | null}
  */
 let opened = null;
@@ -79,16 +79,21 @@ function calledOnAll(words, more = {}) {
 const countIn = (line) => Number(line.match(/^sound (\d+) revision/)?.[1] ?? 0);
 
 /**
- * What the lines of a call tell that ended with status 1: how many entries did not count.
+ * What the lines of a call tell that was done: how many entries did not count, and each note.
  * @param {string} lines
  */
 function toldOf(lines) {
-  const refused = lines.split("\n").filter((it) => it.startsWith("redline: refused "));
+  const all = lines.split("\n");
+  const refused = all.filter((it) => it.startsWith("redline: refused "));
   const locked = refused.filter((it) => /: locked (author|kind|span)$/.test(it)).length;
   const unknown = refused.length - locked;
+  const gone = all.map((it) => it.match(/^redline: note: locked revision (\d+) went/)?.[1]).filter(Boolean);
+  const undecided = Number(lines.match(/^redline: note: (\d+) marks? (?:is|are) left that Redline does not decide/m)?.[1] ?? 0);
   return [
     locked ? counted(locked, "decision") + (locked === 1 ? " is" : " are") + " on locked changes and did not count." : "",
     unknown ? counted(unknown, "decision") + (unknown === 1 ? " is" : " are") + " on a change that this document does not have, and did not count." : "",
+    gone.length ? (gone.length === 1 ? "The locked change " : "The locked changes ") + gone.join(", ") + " went, since the text around went." : "",
+    undecided ? counted(undecided, "mark is", "marks are") + " left in it that Redline doesn't decide: look at “Before you send it out” in step 5." : "",
   ].filter(Boolean).join(" ");
 }
 
@@ -99,9 +104,9 @@ function toldOf(lines) {
  */
 async function openDocument({ name, bytes }, isTidy = false) {
   performance.mark("opening");
-  const { isZip, line, said } = await ask("open", bytes, { tidy: isTidy });
+  const { isZip, line, lines, said } = await ask("open", bytes, { tidy: isTidy });
   const page = await called(["page", DOCUMENT, "--title", name]).catch(goBack);
-  opened = { name, bytes, isZip, isTidy, count: countIn(line), said, isShown: false };
+  opened = { name, bytes, isZip, isTidy, count: countIn(line), note: toldOf(lines), said, isShown: false };
   others.clear();
   locks.length = rank = 0;
   element("rank").value = "0";

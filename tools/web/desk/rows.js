@@ -46,6 +46,13 @@ function goTo(number) {
   frame.focus();
 }
 
+/** How many characters the listing has of what stands before a change, and after it. */
+const REACH = 40;
+const isCut = (/** @type {string} */ text) => Array.from(text).length >= REACH;
+/** What stands before a change and after it, in whole words. */
+const wordsBefore = (/** @type {string} */ text) => (isCut(text) ? "…" + text.replace(/^\S*\s/, "") : text);
+const wordsAfter = (/** @type {string} */ text) => (isCut(text) ? text.replace(/\s\S*$/, "") + "…" : text);
+
 const SIGNS = { "mark": "\u00b6", "row": "row", "cell": "cell" };
 
 /**
@@ -56,7 +63,7 @@ function wordsOf({ kind, before, words, after }) {
   const name = /ins$|move-to|mark-to/.test(kind) ? "ins" : /del$|move-from|mark-from/.test(kind) ? "del" : "mark";
   const sign = SIGNS[kind.split("-")[0]] ?? KINDS[kind];
   const context = (/** @type {string} */ text) => make("span", { className: "context", textContent: text });
-  return make("td", { className: "words", dir: "auto" }, context(before), make(name, { textContent: words.trim() ? words : sign }), context(after));
+  return make("td", { className: "words", dir: "auto" }, context(wordsBefore(before)), make(name, { textContent: words.trim() ? words : sign }), context(wordsAfter(after)));
 }
 
 /**

@@ -60,11 +60,16 @@ async function leftIn(name) {
   return left === 0 ? "No change is tracked in it any more." : counted(left, "change is", "changes are") + " still tracked in it.";
 }
 
-async function saveDocument() {
+/** Writes the document as it is chosen here: as decided, or with all changes accepted or rejected. */
+async function writeAsChosen() {
   const how = document.querySelector('input[name="how"]:checked')?.["value"] ?? "";
-  const words = how ? ["settle", how, DOCUMENT] : null;
-  const { lines } = words ? await called(words, { into: WRITTEN }) : await calledOnAll(["write"], { into: WRITTEN });
+  const { lines } = how ? await called(["settle", how, DOCUMENT], { into: WRITTEN }) : await calledOnAll(["write"], { into: WRITTEN });
   stale.written = stale.written || how !== "";
+  return { how, lines };
+}
+
+async function saveDocument() {
+  const { how, lines } = await writeAsChosen();
   const left = await leftIn(WRITTEN);
   const form = element("form").value;
   const ending = form === "docx" && /\.docm$/i.test(/** @type {Opened} */ (opened).name) ? "docm" : form;
@@ -111,7 +116,8 @@ async function showSaving() {
   const parts = pageParts();
   const isEmpty = !hasEntries(parts.journal(parts.name() || standIn()));
   element("journal-told").textContent = isEmpty ? "You have decided nothing yet." : parts.name() ? "It is saved under the name " + parts.name() + "." : "It needs your name: type it above the list of changes in step 1.";
-  for (const id of ["save-document-told", "save-joined-told", "save-more-told", "save-second-told"]) tellBeside(id, "");
+  for (const id of ["save-document-told", "save-joined-told", "save-more-told", "save-second-told", "remains-told"]) tellBeside(id, "");
+  element("remains").replaceChildren();
   showSitting(name, isZip);
 }
 

@@ -46,11 +46,11 @@ async function openFile(file, isTidy = file.isTidy ?? false) {
     tell(message);
     throw null;
   }
-  const { count, said } = /** @type {Opened} */ (opened);
+  const { count, note, said } = /** @type {Opened} */ (opened);
   choose("decide");
   tell({
     what: count ? "“" + file.name + "” is open: " + counted(count, "change") + " to decide." : "“" + file.name + "” has no tracked changes.",
-    todo: count ? "" : "If you expected some, Track Changes was off, or they were accepted before. There is nothing to decide here.",
+    todo: count || note ? note : "If you expected some, Track Changes was off, or they were accepted before. There is nothing to decide here.",
     line: said.join("\n"),
   });
 }
@@ -203,6 +203,7 @@ guarded(async () => {
   prepareSteps();
   prepareLocks();
   prepareSaving();
+  prepareRemains();
   prepareSittings();
   prepareButtons();
   element("version").textContent = (await started).replace("\n", ", ");
