@@ -1,12 +1,14 @@
 #!/usr/bin/env python3
 """Tries `redline-docx scrub`, and tells each case in a line.
 
-    scrub.py PROGRAM FOLDER N
+    scrub.py PROGRAM FOLDER N [DOCUMENTS]
 
-A .docx that has one of everything, N .docx at random, and examples and random packages that were settled. What is left is found
-by a second reading (examples/left.py) and by words that stand nowhere else. FOLDER gets before/NAME.docx and after/NAME.docx of
-all that a word processor can open.
+A .docx that has one of everything, N .docx at random, examples and random packages that were settled, and each .docx below
+DOCUMENTS, settled. What is left is found by a second reading (examples/left.py) and by words that stand nowhere else. FOLDER gets
+before/NAME.docx and after/NAME.docx of all that a word processor can open.
 """
+import glob
+import json
 import os
 import random
 import subprocess
@@ -25,6 +27,7 @@ from packages import small_package
 from scrub.choice import NAMES, THINGS
 from scrub.scrubbed import Scrubbed
 
+DOCX = os.path.join(TOP, "tools", "redline-docx")
 RELATIONSHIPS = b"application/vnd.openxmlformats-package.relationships+xml"
 USUAL = {name for name, is_usual, _ in THINGS if is_usual}
 EVERYTHING = ",".join(NAMES)
@@ -52,7 +55,7 @@ class Desk:
         before, after = (os.path.join(self.folder, which, name + ".docx") for which in ("before", "after"))
         with open(before, "wb") as file:
             file.write(data)
-        status, _, lines = self.call(os.path.join(TOP, "tools", "redline-docx"), "scrub", before, *words, "-f", "-o", after)
+        status, _, lines = self.call(DOCX, "scrub", before, *words, "-f", "-o", after)
         made = None
         if status == 0:
             with open(after, "rb") as file:
@@ -161,6 +164,38 @@ def settled(desk, many):
     tell("%d settled documents" % count, "; ".join(faults[:3]) if faults or not count else None)
 
 
+def of_people(desk, documents):
+    """Each .docx below a folder, with all accepted and all rejected: `left` has nothing of what is taken, but for what it says it kept."""
+    faults, counts = [], {"files": 0, "refused": 0, "settled": 0}
+    package = os.path.join(desk.folder, "settled.xml")
+    for path in sorted(glob.glob(os.path.join(documents, "**", "*.docx"), recursive=True)):
+        counts["files"] += 1
+        for half in ("accept", "reject"):
+            status, _, _ = desk.call(DOCX, "settle", half, path, "--tidy", "-f", "-o", package)
+            if status or desk.call(desk.program, "check", package)[1] != b"sound 0 revisions\n":
+                counts["refused"] += 1
+                continue
+            counts["settled"] += 1
+            with open(package, "rb") as file:
+                docx = pack(file.read())
+            name = "%s-%s" % (os.path.basename(path)[:-5], half)
+            status, made, lines = desk.scrub(name, docx)
+            fault = lines if status else fault_of(docx, made) or left_fault(desk, name, lines)
+            if fault:
+                faults.append("%s: %s" % (name, fault))
+    tell("documents of people: %s" % counts, "; ".join(faults[:5]) if faults or not counts["settled"] else None)
+
+
+def left_fault(desk, name, lines):
+    """What `left` tells of a result that was to be taken, where the lines don't say that it was kept."""
+    status, listed, _ = desk.call(DOCX, "left", os.path.join(desk.folder, "after", name + ".docx"), "--format", "json")
+    kept = [line.split(": kept ", 1)[1] for line in lines.split("\n") if ": kept " in line]
+    for one in json.loads(listed) if status == 0 else [{"fact": "no list", "count": 1, "part": ""}]:
+        if one["fact"] in {*USUAL, "no list"} and not any(line.startswith(one["fact"]) for line in kept):
+            return "%(fact)s is left %(count)d times in %(part)s" % one
+    return None
+
+
 def with_way_in(package):
     """A package with the relationship to its document, which those at random don't have and a word processor needs."""
     if b'"/_rels/.rels"' in package:
@@ -177,13 +212,15 @@ def is_settled(desk, package):
     return desk.call(desk.program, "check", path)[1] == b"sound 0 revisions\n"
 
 
-def main(program, folder, many):
+def main(program, folder, many, documents=""):
     desk = Desk(program, folder)
     one_of_everything(desk)
     at_random(desk, int(many))
     for which in ("before", "after"):
         os.unlink(os.path.join(folder, which, "taken.docx"))
     settled(desk, int(many))
+    if documents:
+        of_people(desk, documents)
 
 
 if __name__ == "__main__":
