@@ -12,6 +12,7 @@ from opc.xml import NotOfTheForm
 
 # How redline begins the line on a lock that holds nothing.
 IDLE_LOCK = b"redline: note: nothing by "
+HINT = b"redline: hint: "
 # How the name of a file in memory begins, and what follows.
 FILES, DIGITS = b"/proc/self/fd/", b"0123456789"
 
@@ -136,13 +137,15 @@ class Call:
         except OSError as error:
             raise Refused(70, "cannot call redline: %s" % error.strerror) from None
         # (as they come, since a first call of the launcher builds the program and tells how far it is)
-        is_idle = False
+        refuses, is_idle = "--idle-locks" not in self.own["switches"], False
         for line in called.lines:
             is_idle |= line.startswith(IDLE_LOCK)
-            sys.stderr.buffer.write(self.named(line))
-            sys.stderr.flush()
+            # (where a lock is refused, what is near its name is told then)
+            if not (refuses and is_idle and line.startswith(HINT)):
+                sys.stderr.buffer.write(self.named(line))
+                sys.stderr.flush()
         status = called.wait()
-        if is_idle and status in (0, 1) and "--idle-locks" not in self.own["switches"]:
+        if refuses and is_idle and status in (0, 1):
             self.refuse_idle_locks()
         return (128 - status if status < 0 else status or self.status), called.output() if caught else None
 

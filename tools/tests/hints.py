@@ -79,6 +79,7 @@ def make_files():
     put("j.eml", b"Return-Path: <ann@example.org>\n" + journal)
     put("bomcrlf.journal", b"\xef\xbb\xbf" + journal.replace(b"\n", b"\r\n"))
     put("tail.xml", contract + b"<!-- approved -->")
+    put("remarked.xml", contract.replace(b"</w:p>", b'</w:p><x:comment xmlns:x="urn:x" x:author="Paul Park"/>', 1))
     make_others(contract, journal)
     make_archives()
     make_bomb()

@@ -1,26 +1,37 @@
-//! A shelf that remembers how the last text that it gave begins and ends, and the reviewers of the journals among all texts.
+//! A shelf that remembers what hints go by: how the last text that it gave begins and ends, the reviewers of the journals among all
+//! texts, and the authors of packages where a call locks some.
 
 ghost use Rattle.std.specs.Prelude.{◌≡◌};
 
+use crate::authors::{Authors, locks_an_author};
 use crate::reviewers::Reviewers;
-use redl_io::{Shelf, ShelfError};
-use std::alloc::Global;
+use redl_io::{Shelf, ShelfError, Text};
+use std::alloc::{AllocError, Global};
 
 // How many bytes of a text are remembered.
 const MOST: usize = 1 << 16;
 
-/// Fetches all texts from another shelf, and remembers how the last one begins and ends, and who the reviewers are of journals. So a
-/// hint on a file needs no second look at it, which a pipe does not allow.
+/// Fetches all texts from another shelf, and remembers of them what hints go by. So a hint on a file needs no second look at it, which
+/// a pipe does not allow.
 #[derive(Drop)]
 pub struct Fetched<F> {
     shelf: F,
-    text: Ends,
-    reviewers: Reviewers,
+    remembered: Remembered,
+}
+
+/// What is remembered of the texts of a call: how the last one begins and ends, who the reviewers are of journals, as far as their first
+/// 65,536 bytes name them, and where the call locks some, who the authors are of packages.
+#[derive(Drop)]
+pub struct Remembered {
+    pub(crate) text: Ends,
+    pub(crate) reviewers: Reviewers,
+    pub(crate) authors: Authors,
+    looks_for_authors: bool,
 }
 
 /// How a text begins and ends.
 #[derive(Drop)]
-pub struct Ends {
+pub(crate) struct Ends {
     front: Vec<u8>,
     length: usize,
     last: Option<u8>,
@@ -63,30 +74,48 @@ impl Ends {
     }
 }
 
-impl<F: Shelf> Fetched<F> {
-    /// A shelf before this one, which remembers an empty text. It takes no memory.
-    pub fn new(alloc: Global, shelf: F) -> Fetched<F> {
+impl Remembered {
+    fn new(alloc: Global) -> Remembered {
         let text = Ends {
             front: Vec::new(alloc),
             length: 0,
             last: None,
         };
-        let reviewers = Reviewers::new(alloc);
-        Fetched {
-            shelf,
+        Remembered {
             text,
-            reviewers,
+            reviewers: Reviewers::new(alloc),
+            authors: Authors::new(alloc),
+            looks_for_authors: false,
         }
     }
 
-    /// The text that was fetched last.
-    pub fn last_text(&self) -> &Ends {
-        &self.text
+    // Remembers a text. `Err` means out of memory, and then less is remembered.
+    fn note(&mut self, alloc: Global, bytes: &[u8]) -> Result<(), AllocError> {
+        self.text.note(bytes);
+        if self.looks_for_authors {
+            self.authors.note(alloc, bytes)?;
+        }
+        self.reviewers.note(alloc, self.text.front())
+    }
+}
+
+impl<F: Shelf> Fetched<F> {
+    /// A shelf before this one, which remembers an empty text. It takes no memory.
+    pub fn new(alloc: Global, shelf: F) -> Fetched<F> {
+        Fetched {
+            shelf,
+            remembered: Remembered::new(alloc),
+        }
     }
 
-    /// The reviewers of the journals that were fetched, as far as their first 65,536 bytes name them.
-    pub fn reviewers(&self) -> &Reviewers {
-        &self.reviewers
+    /// Looks for authors too in what is fetched from now on, where these words of a call lock one.
+    pub fn prepare(&mut self, words: &[Text]) {
+        self.remembered.looks_for_authors = locks_an_author(words);
+    }
+
+    /// What is remembered of the texts that were fetched.
+    pub fn remembered(&self) -> &Remembered {
+        &self.remembered
     }
 }
 
@@ -100,9 +129,8 @@ impl<F: Shelf> Shelf for Fetched<F> {
     fn fetch(&mut self, alloc: Global, name: &str, cap: usize) -> Result<Vec<u8>, ShelfError> {
         let fetched = self.shelf.fetch(alloc, name, cap);
         if let Ok(bytes) = &fetched {
-            self.text.note(bytes);
             // What is remembered serves hints alone, so it may be less where memory runs out.
-            let _ = self.reviewers.note(alloc, self.text.front());
+            let _ = self.remembered.note(alloc, bytes);
         }
         fetched
     }

@@ -5,6 +5,8 @@
 //! specified, and a script passes over them.
 #![tactic(auto)]
 
+mod alike;
+mod authors;
 mod choices;
 mod fetched;
 mod hint;
@@ -20,7 +22,6 @@ mod told;
 mod usage;
 mod values;
 
-pub use fetched::{Ends, Fetched};
-pub use reviewers::Reviewers;
+pub use fetched::{Fetched, Remembered};
 pub use tell::{tell_hints, tell_word_hint};
 pub use told::Told;

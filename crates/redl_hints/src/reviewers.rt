@@ -1,9 +1,9 @@
 //! What the reviewers say in the journals that a call read, names of theirs that are spelled alike, and words that contradict each
 //! other.
 
+use crate::alike::{is_among, key_of, text_of};
 use crate::hint::add_hint_on;
 use bstr::ByteSlice;
-use caseless::compatibility_caseless_match_str;
 use redl_io::Text;
 use std::alloc::{AllocError, Global};
 
@@ -164,29 +164,4 @@ pub(crate) fn add_alike_hint(
         keys.push(key)?;
     }
     Ok(())
-}
-
-fn text_of(name: &Text) -> &str {
-    std::str::from_utf8(name.as_bytes()).unwrap_or("")
-}
-
-// A name without its spaces.
-fn key_of(alloc: Global, name: &str) -> Result<String, AllocError> {
-    let mut key = String::new(alloc);
-    for letter in name.chars() {
-        if !letter.is_whitespace() {
-            key.push(letter)?;
-        }
-    }
-    Ok(key)
-}
-
-// Whether one of these differs from the name only by case or Unicode form.
-fn is_among(alloc: Global, keys: &[String], name: &str) -> Result<bool, AllocError> {
-    for key in keys {
-        if compatibility_caseless_match_str(alloc, key.as_str(), name)? {
-            return Ok(true);
-        }
-    }
-    Ok(false)
 }

@@ -1,12 +1,13 @@
 //! The hints of a call.
 
+use crate::authors::add_lock_hints;
 use crate::choices::add_choice_hint;
-use crate::fetched::Ends;
+use crate::fetched::{Ends, Remembered};
 use crate::hint::add_hint;
 use crate::journals::{add_journal_hint, has_no_entry};
 use crate::names::add_name_hints;
 use crate::packages::guess_of_package;
-use crate::reviewers::{Reviewers, add_alike_hint, add_contradiction_hint};
+use crate::reviewers::{add_alike_hint, add_contradiction_hint};
 use crate::rules::sentence_of_rule;
 use crate::told::Told;
 use crate::usage::add_usage_hints;
@@ -15,26 +16,17 @@ use redl_io::{Sink, Text};
 use std::alloc::{AllocError, Global};
 
 /// Tells what probably went wrong with a call of these words, after the lines that it told on `err`. The program's help lists
-/// its commands and options, `text` is the file that was read last, `reviewers` are those of its journals, and `out` is what came out.
+/// its commands and options, `remembered` is of the files that were read, and `out` is what came out.
 /// Where memory runs out there is no hint.
 pub fn tell_hints<O: Sink, E: Sink>(
     alloc: Global,
     words: &[Text],
     help: &str,
-    text: &Ends,
-    reviewers: &Reviewers,
+    remembered: &Remembered,
     out: &Told<O>,
     err: &mut Told<E>,
 ) {
-    if let Ok(hints) = hints_of(
-        alloc,
-        words,
-        help,
-        text,
-        reviewers,
-        out.first(),
-        err.first(),
-    ) {
+    if let Ok(hints) = hints_of(alloc, words, help, remembered, out.first(), err.first()) {
         if !hints.is_empty() {
             let _ = err.put(&hints);
         }
@@ -50,12 +42,12 @@ fn hints_of(
     alloc: Global,
     words: &[Text],
     help: &str,
-    text: &Ends,
-    reviewers: &Reviewers,
+    remembered: &Remembered,
     out: &[u8],
     lines: &[u8],
 ) -> Result<Vec<u8>, AllocError> {
     let mut hints = Vec::new(alloc);
+    let text = &remembered.text;
     match first_line(lines) {
         Some(line) if line == b"redline: cannot read the command line".as_slice() => {
             add_usage_hints(alloc, words, help, &mut hints)?;
@@ -69,8 +61,10 @@ fn hints_of(
     }
     add_name_hints(words, &mut hints)?;
     if is_written(lines) {
+        let reviewers = &remembered.reviewers;
         add_alike_hint(alloc, reviewers, reviewer_in(words), &mut hints)?;
         add_contradiction_hint(alloc, reviewers, &mut hints)?;
+        add_lock_hints(alloc, words, &remembered.authors, &mut hints)?;
     }
     Ok(hints)
 }

@@ -1,8 +1,8 @@
 //! The program: real files, standard output and standard error, and the words of the command line.
 //!
 //! All that it does is a call of `answer`, whose clauses say what goes out and which exit status comes when; hints follow the
-//! lines that the call told. What they go by is remembered on the way: the lines, the first of the output, and of the file that
-//! was read last its beginning and its end.
+//! lines that the call told. What they go by is remembered on the way: the lines, the first of the output, and something of the files
+//! that were read.
 //! The words are copied first; a word that isn't UTF-8 ends the program with its line.
 #![tactic(auto)]
 
@@ -29,6 +29,9 @@ fn main(rt: HostRuntime) -> ExitCode {
     let mut out = Told::new(rt.alloc(), StdSink::new(rt.stdout()));
     let mut err = Told::new(rt.alloc(), StdSink::new(rt.stderr()));
     let words = given_words(&rt);
+    if let Ok(words) = &words {
+        shelf.prepare(words);
+    }
     let status = answer(
         rt.alloc(),
         &words,
@@ -56,8 +59,7 @@ fn tell_hint<F: Shelf, O: Sink, E: Sink>(
             alloc,
             words,
             HELP,
-            shelf.last_text(),
-            shelf.reviewers(),
+            shelf.remembered(),
             out,
             err,
         ),
