@@ -1,6 +1,6 @@
 -- Numbers are one thing: the number on an element of a package is the number of its revision in the list of the revisions
 -- (ECMA-376 Part 1, 17.13.5; the numbers are our own rule).
-use Rattle.std.specs.Prelude.{◌≡◌, ◌<◌, ◌≤◌, ◌↔◌, ℕ, suc, List, Option, Some, None, Contains, slice_get}
+use Rattle.std.specs.Prelude.{◌≡◌, ◌≢◌, ◌<◌, ◌≤◌, ◌↔◌, ◌⊎◌, ℕ, suc, List, Option, Some, None, Contains, slice_get}
 use Rattle.redl_index.specs.Kinds.{kind_of}
 use Rattle.redl_kinds.specs.declared.rev_kind.RevKind.{RevKind}
 use Rattle.redl_kinds.specs.declared.rev_kind.RevKind.TheVariants.{Move}
@@ -71,11 +71,24 @@ pub record NumbersNameIn (revisions : List Revision) (part : ℕ) (elements : Li
   pub before : (place lower : ℕ) (revision : Revision) → element.own.tag.rev ≡ suc place → lower < place
       → slice_get revisions lower ≡ Some revision → revision.part ≡ part → StandsBefore elements (suc lower) element.own.start
 
+-- two elements of a story are of one paired move
+abbrev pub IsOneMove : Option Pair → Option Pair → Type 0
+IsOneMove (Some one) (Some other) = one.source.start.at ≡ other.source.start.at
+IsOneMove _ _ = ⊥
+
+-- the elements of the story with this root that share a number are one element, or are of one move
+abbrev pub ShareMoves : Element → Type 0
+ShareMoves root =
+    let elements = seen root.tag root.kids in
+    (one other : Seen) → Contains elements one → Contains elements other → one.own.tag.rev ≢ 0 → other.own.tag.rev ≡ one.own.tag.rev
+    → (one ≡ other) ⊎ IsOneMove (move_of attribute_value (moves_among attribute_value elements) one) (move_of attribute_value (moves_among attribute_value elements) other)
+
 -- the numbers on the elements of a package name these revisions: those of each element as they should, each revision by an element
--- of the story in its part, and numbers rise with the part
+-- of the story in its part, and numbers rise with the part; no two revisions share a number
 pub record NumbersName (nodes : Nodes) (revisions : List Revision) : Type 0 where
   pub elements : (part : ℕ) (root : Element) (element : Seen) → story nodes part ≡ Some root → Contains (seen root.tag root.kids) element
       → NumbersNameIn revisions part (seen root.tag root.kids) element
   pub each : (place : ℕ) (revision : Revision) → slice_get revisions place ≡ Some revision → HasNumber nodes revision.part (suc place)
   pub rising : (lower higher : ℕ) (one other : Revision) → lower < higher → slice_get revisions lower ≡ Some one
       → slice_get revisions higher ≡ Some other → one.part ≤ other.part
+  pub apart : (part : ℕ) (root : Element) → story nodes part ≡ Some root → ShareMoves root

@@ -34,7 +34,7 @@ in_one Marker (Some pair) = inr refl
 -- ---- what the state of numbering knows
 
 -- the moves that have a number have one each, below the next one
-record IsFresh (s : Numbering) : Type 0 where
+pub record IsFresh (s : Numbering) : Type 0 where
   pub below : (start number : ℕ) → number_of_move s.moves start ≡ Some number → number < s.next
   pub apart : (start other number : ℕ) → number_of_move s.moves start ≡ Some number → number_of_move s.moves other ≡ Some number → start ≡ other
 
@@ -43,8 +43,8 @@ abbrev IsGiven : Option Pair → ℕ → Numbering → Type 0
 IsGiven None number s = (number < s.next) × ((start : ℕ) → number_of_move s.moves start ≡ Some number → ⊥)
 IsGiven (Some pair) number s = number_of_move s.moves pair.source.start.at ≡ Some number
 
-begun : (next : ℕ) → IsFresh (start_with next)
-begun next = record { below = λ start number e. cc; apart = λ start other number e f. cc }
+pub fresh-start : (next : ℕ) → IsFresh (start_with next)
+fresh-start next = record { below = λ start number e. cc; apart = λ start other number e f. cc }
 
 given-below : (p : Option Pair) (number : ℕ) (s : Numbering) → IsFresh s → IsGiven p number s → number < s.next
 given-below None number s fresh given = given.0
@@ -196,6 +196,3 @@ module _ (moves : List Pair) where
       inr (one_move-sym (pair_of y) (pair_of x) (from-first s y xs (subst P is labels) fresh (λ zero. some (sym e ∙ zero)) i x at (sym e)))
   shared-numbers s (first ∷ xs) labels fresh (suc i) (suc j) x y at there some e =
       shared-numbers (after_one moves s first) xs labels.1 (fresh-counted s fresh (revision_of attribute_value moves first)) i j x y at there some e
-
-pub fresh-start : (next : ℕ) → IsFresh (start_with next)
-fresh-start next = begun next

@@ -21,7 +21,7 @@ use Rattle.redl_index.proofs.AgainLaws.{revisions-numbered}
 use Rattle.redl_index.proofs.RevisionLaws.{length-numbered, numbered-append, length-in}
 use Rattle.redl_sound.specs.Names.{Names, HasNumber, StandsBefore, NumbersNameIn, NumbersName}
 use Rattle.redl_sound.proofs.Numbered.Lists.{IsPlaced, contains, placed, at-left, at-right, there-is}
-use Rattle.redl_sound.proofs.Numbered.Story.{IsNone, IsNamed, story-named, story-each}
+use Rattle.redl_sound.proofs.Numbered.Story.{IsNone, IsNamed, story-named, story-each, story-apart}
 
 lt-true : (a b : ℕ) → nat_lt a b ≡ true → a < b
 lt-true a b e = grind (arith, e)
@@ -328,6 +328,9 @@ module _ (nodes : Nodes) (shape : refusal nodes ≡ None) (is : numbered_package
   numbers-name = record {
     elements = λ part root x there among. numbers-here part root (story-of part root there) x (placed (seen root.tag root.kids) x among);
     each = each-number;
+    apart = λ part root there one other among also.
+        story-apart (story-of part root there).base part root.tag root.kids (story-of part root there).labelled one other
+        (placed (seen root.tag root.kids) one among) (placed (seen root.tag root.kids) other also);
     rising = λ lower higher one other. rises 0 (revisions_of nodes) lower higher one other (parts-rise 0 1 (parts_of nodes));
   }
 

@@ -1,5 +1,5 @@
 -- The numbers in one story that is labelled already.
-use Rattle.std.proofs.Common.{◌≡◌, ◌∙◌, ◌⊎◌, inl, inr, refl, ap, sym, subst, ℕ, zero, suc, ◌+◌, ◌<◌, List, [], ◌∷◌, map, length, slice_get, Option, Some, None, IfSome, arith}
+use Rattle.std.proofs.Common.{◌≡◌, ◌≢◌, ◌∙◌, ◌⊎◌, inl, inr, refl, ap, sym, subst, ℕ, zero, suc, ◌+◌, ◌<◌, List, [], ◌∷◌, map, length, slice_get, Option, Some, None, IfSome, arith}
 use Rattle.redl_tree.specs.Model.Nodes.{Tag, Nodes}
 use Rattle.redl_tree.specs.Model.Seen.{Seen, seen, root_spots}
 use Rattle.redl_tree.specs.Revisions.Markers.{move_of, whole_role}
@@ -16,7 +16,8 @@ use Rattle.redl_index.specs.Mentions.{Mention, mentions}
 use Rattle.redl_index.specs.Revisions.{firsts, revision_of, story_revisions, numbered}
 use Rattle.redl_index.specs.declared.revision.Revision.{Revision}
 use Rattle.redl_index.proofs.NumberingLaws.{placed-move}
-use Rattle.redl_sound.specs.Names.{IsTellerOf, Names, StandsBefore}
+use Rattle.redl_sound.specs.Names.{IsOneMove, IsTellerOf, Names, StandsBefore}
+use Rattle.redl_sound.proofs.Numbered.Apart.{fresh-start, shared-numbers}
 use Rattle.redl_sound.proofs.Numbered.Lists.{IsPlaced, contains}
 use Rattle.redl_sound.proofs.Numbered.Labelled.{HaveLabels, after_one, have-labels, seen-rise}
 use Rattle.redl_sound.proofs.Numbered.Mentions.{Mentions, IsMentioned, mention-is, tail-at}
@@ -147,3 +148,8 @@ module _ (base part : ℕ) (root : Tag) (kids : Nodes) (is : labelled_story attr
   -- each number stands on an element
   pub story-each : (place : ℕ) → place < length revisions → (x : Seen) × IsPlaced elements x × (x.own.tag.rev ≡ base + place)
   story-each place within = walked.1 place (omega (arith, within, length-revisions (revision_of part (mentions root kids)) base all))
+
+  -- elements that share a number are one, or are of one move
+  pub story-apart : (x y : Seen) → IsPlaced elements x → IsPlaced elements y → x.own.tag.rev ≢ 0 → y.own.tag.rev ≡ x.own.tag.rev
+      → (x ≡ y) ⊎ IsOneMove (move_of attribute_value (pairs marks) x) (move_of attribute_value (pairs marks) y)
+  story-apart x y at there = shared-numbers (pairs marks) (start_with base) elements labels (fresh-start base) at.0 there.0 x y at.1 there.1
