@@ -7,5 +7,5 @@ mod laws;
 
 pub use laws::{
     ends_are_seen_where_stretches_meet, neighbours_are_one_stretch, passed_nodes_are_no_more,
-    passed_tags_are_scoped,
+    passed_packages_keep_their_parts, passed_tags_are_scoped,
 };
