@@ -1,0 +1,3 @@
+mod Rows
+pub mod PieceLaws
+pub mod Utf8Laws

@@ -1,0 +1,9 @@
+pub mod Utf8
+pub mod Names
+pub mod Values
+pub mod Leaves
+pub mod Wholes
+pub mod Amounts
+pub mod Said
+pub mod Changes
+pub mod Lines

@@ -1,0 +1,27 @@
+//! Properties: the leaves of two lists of properties go in, and which properties differ comes out, each with its former and its present
+//! value and said in words.
+//!
+//! Read `changes_between` first. A property is known by its path, as `vanish` or `pBdr/top`, or by its path and an attribute, as
+//! `ind@left`. `PROPERTIES` has those that have a name; `property.rt` is made by `tools/properties`.
+//! How leaves come from the nodes of a document is left to the crate above.
+#![tactic(auto)]
+
+mod amount;
+mod attribute;
+mod change;
+mod changes;
+mod leaves;
+mod line;
+mod property;
+mod said;
+mod utf8;
+mod value;
+mod whole;
+
+pub use attribute::{Attribute, Attributes, Leaf, Leaves};
+pub use change::{Changed, Changes};
+pub use changes::{changes_between, first_changes};
+pub use line::line_of;
+pub use property::{PROPERTIES, Property, Way};
+pub use utf8::Utf8Text;
+pub use value::Value;
