@@ -1,0 +1,4 @@
+pub mod Paths
+pub mod Leaves
+pub mod Kept
+pub mod Changed
