@@ -43,14 +43,14 @@ either false true = refl
 either false false = refl
 
 -- whether a byte is this one, lane by lane
-abbrev compared : ℕ → List ℕ → List ℕ
-compared y block = zip2 (λ a b. lane (eqb a b)) block (replicate 16 y)
+abbrev compared : ℕ → ℕ → List ℕ → List ℕ
+compared n y block = zip2 (λ a b. lane (eqb a b)) block (replicate n y)
 
 -- the lanes of a word
-word_lanes : (a b : ℕ) (xs ys : List ℕ) → length xs ≡ 16 → length ys ≡ 16
-    → zip2 bit_and (compared a xs) (compared b ys) ≡ zip2 (λ x y. lane (eqb x a && eqb y b)) xs ys
-word_lanes a b xs ys long also =
-    ap₂ (λ (u : List ℕ) (v : List ℕ). zip2 bit_and u v) (zip2_splat (λ x y. lane (eqb x y)) xs 16 a long) (zip2_splat (λ x y. lane (eqb x y)) ys 16 b also)
+word_lanes : (n a b : ℕ) (xs ys : List ℕ) → length xs ≡ n → length ys ≡ n
+    → zip2 bit_and (compared n a xs) (compared n b ys) ≡ zip2 (λ x y. lane (eqb x a && eqb y b)) xs ys
+word_lanes n a b xs ys long also =
+    ap₂ (λ (u : List ℕ) (v : List ℕ). zip2 bit_and u v) (zip2_splat (λ x y. lane (eqb x y)) xs n a long) (zip2_splat (λ x y. lane (eqb x y)) ys n b also)
     ∙ zip_maps bit_and (λ x. lane (eqb x a)) (λ y. lane (eqb y b)) xs ys
     ∙ zip_same (λ x y. bit_and (lane (eqb x a)) (lane (eqb y b))) (λ x y. lane (eqb x a && eqb y b)) (λ x y. both (eqb x a) (eqb y b)) xs ys
 
@@ -58,10 +58,10 @@ word_lanes a b xs ys long also =
 abbrev pair_lanes : ℕ → ℕ → ℕ → ℕ → List ℕ → List ℕ → List ℕ
 pair_lanes a b c d xs ys = zip2 (λ x y. lane (begins_either a b c d x y)) xs ys
 
-either_lanes : (a b c d : ℕ) (xs ys : List ℕ) → length xs ≡ 16 → length ys ≡ 16
-    → zip2 bit_or (zip2 bit_and (compared a xs) (compared b ys)) (zip2 bit_and (compared c xs) (compared d ys)) ≡ pair_lanes a b c d xs ys
-either_lanes a b c d xs ys long also =
-    ap₂ (λ (u : List ℕ) (v : List ℕ). zip2 bit_or u v) (word_lanes a b xs ys long also) (word_lanes c d xs ys long also)
+either_lanes : (n a b c d : ℕ) (xs ys : List ℕ) → length xs ≡ n → length ys ≡ n
+    → zip2 bit_or (zip2 bit_and (compared n a xs) (compared n b ys)) (zip2 bit_and (compared n c xs) (compared n d ys)) ≡ pair_lanes a b c d xs ys
+either_lanes n a b c d xs ys long also =
+    ap₂ (λ (u : List ℕ) (v : List ℕ). zip2 bit_or u v) (word_lanes n a b xs ys long also) (word_lanes n c d xs ys long also)
     ∙ zip_zips bit_or (λ x y. lane (eqb x a && eqb y b)) (λ x y. lane (eqb x c && eqb y d)) xs ys
     ∙ zip_same (λ x y. bit_or (lane (eqb x a && eqb y b)) (lane (eqb x c && eqb y d))) (λ x y. lane (begins_either a b c d x y))
     (λ x y. either (eqb x a && eqb y b) (eqb x c && eqb y d)) xs ys
@@ -89,13 +89,14 @@ none_set test (x ∷ xs) (y ∷ ys) =
     let rest = mask_l (map (top 7) (zip2 (λ x y. lane (test x y)) xs ys)) in
     ap (λ (t : Bool). eqb (cond t 1 0 + 2 * rest) 0) (top_of (test x y)) ∙ set_step (test x y) (lacks_both test xs ys) rest (none_set test xs ys)
 
-pub mask_of : (a b c d : ℕ) (xs ys : List ℕ) → length xs ≡ 16 → length ys ≡ 16
-    → eqb (mask_l (map (top 7) (zip2 bit_or (zip2 bit_and (compared a xs) (compared b ys)) (zip2 bit_and (compared c xs) (compared d ys)))) % 2 ^ 64) 0
+-- of at most 64 lanes
+pub mask_of : (n a b c d : ℕ) (xs ys : List ℕ) → n ≤ 64 → length xs ≡ n → length ys ≡ n
+    → eqb (mask_l (map (top 7) (zip2 bit_or (zip2 bit_and (compared n a xs) (compared n b ys)) (zip2 bit_and (compared n c xs) (compared n d ys)))) % 2 ^ 64) 0
     ≡ lacks_both (begins_either a b c d) xs ys
-mask_of a b c d xs ys long also =
+mask_of n a b c d xs ys few long also =
     let lanes = pair_lanes a b c d xs ys in
     let size : length lanes ≡ length xs = length-zip2 (λ x y. lane (begins_either a b c d x y)) xs ys (long ∙ sym also) in
-    let short : length (map (top 7) lanes) ≤ 64 = omega (arith, length-map lanes (top 7), size, long) in
-    ap (λ (ls : List ℕ). eqb (mask_l (map (top 7) ls) % 2 ^ 64) 0) (either_lanes a b c d xs ys long also)
+    let short : length (map (top 7) lanes) ≤ 64 = omega (arith, length-map lanes (top 7), size, long, few) in
+    ap (λ (ls : List ℕ). eqb (mask_l (map (top 7) ls) % 2 ^ 64) 0) (either_lanes n a b c d xs ys long also)
     ∙ ap (λ m. eqb m 0) (mask_l-mod (map (top 7) lanes) 64 short)
     ∙ none_set (begins_either a b c d) xs ys

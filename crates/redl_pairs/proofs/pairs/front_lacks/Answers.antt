@@ -6,4 +6,4 @@ use Rattle.redl_pairs.proofs.pairs.front_lacks.Goals as goal
 pub returns : goal.returns
 returns c =
     let t = c.args.text.now in
-    mask_of c.args.a.0 c.args.a.1 c.args.b.0 c.args.b.1 (take 16 t) (take 16 (drop 1 t)) (length-chunk 0 16 t (omega arith)) (length-chunk 1 16 t (omega arith))
+    mask_of 16 c.args.a.0 c.args.a.1 c.args.b.0 c.args.b.1 (take 16 t) (take 16 (drop 1 t)) (omega arith) (length-chunk 0 16 t (omega arith)) (length-chunk 1 16 t (omega arith))

@@ -1,6 +1,6 @@
 use Rattle.std.proofs.Common.{◌≡◌, ◌≤◌, ◌-◌, length, drop}
 use Rattle.redl_pairs.specs.Pairs.{begins_either, lacks_both}
-use Rattle.redl_pairs.proofs.pairs.lacks_pairs.Given as goal
+use Rattle.redl_pairs.proofs.pairs.past_blocks.Given as goal
 
 -- no word begins before what is left
 abbrev pub invariant-loop-i : goal.invariant-loop-i
