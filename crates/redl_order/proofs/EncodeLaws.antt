@@ -1,20 +1,23 @@
 -- References are known by their numbers.
 use Rattle.std.proofs.Common.{◌≡◌, ◌∙◌, refl, sym, ap, ℕ, List, [], ◌∷◌, ◌++◌, length, take, drop, get_or}
 use Rattle.std.proofs.Math.Seq.{drop-append_seam, take-append_seam}
-use Rattle.redl_order.specs.declared.reference.Note.{Note}
-use Rattle.redl_order.specs.declared.reference.Note.TheVariants.{Footnote, Endnote}
+use Rattle.redl_order.specs.declared.reference.Named.{Named}
+use Rattle.redl_order.specs.declared.reference.Named.TheVariants.{Header, Footer, Footnote, Endnote}
 use Rattle.redl_order.specs.declared.reference.Reference.{Reference}
-use Rattle.redl_order.specs.Inside.Encoded.{note_number, encoded}
+use Rattle.redl_order.specs.References.{named_number}
+use Rattle.redl_order.specs.Inside.Encoded.{encoded}
 
-abbrev note_at : ℕ → Note
-note_at n = get_or (Footnote ∷ Endnote ∷ []) n Footnote
+abbrev named_at : ℕ → Named
+named_at n = get_or (Header ∷ Footer ∷ Footnote ∷ Endnote ∷ []) n Header
 
-there : (n : Note) → note_at (note_number n) ≡ n
+there : (n : Named) → named_at (named_number n) ≡ n
+there Header = refl
+there Footer = refl
 there Footnote = refl
 there Endnote = refl
 
-same_note : (m n : Note) → note_number m ≡ note_number n → m ≡ n
-same_note m n e = sym (there m) ∙ ap note_at e ∙ there n
+same_named : (m n : Named) → named_number m ≡ named_number n → m ≡ n
+same_named m n e = sym (there m) ∙ ap named_at e ∙ there n
 
 -- of two texts of one length, each with more after it
 same_front : (a b u v : List ℕ) → length a ≡ length b → a ++ u ≡ b ++ v → a ≡ b
@@ -29,19 +32,19 @@ head_same a b u v e = cc
 tail_same : (a b : ℕ) (u v : List ℕ) → a ∷ u ≡ b ∷ v → u ≡ v
 tail_same a b u v e = cc
 
-abbrev reference_of : Note → List ℕ → Reference
-reference_of note id = record { note = note; id = id }
+abbrev reference_of : Named → List ℕ → Reference
+reference_of named id = record { named = named; id = id }
 
 pub same_references : (xs ys : List Reference) → encoded xs ≡ encoded ys → xs ≡ ys
 same_references [] [] e = refl
 same_references [] (y ∷ ys) e = cc
 same_references (x ∷ xs) [] e = cc
 same_references (x ∷ xs) (y ∷ ys) e =
-    let note = same_note x.note y.note (head_same (note_number x.note) (note_number y.note) (length x.id ∷ (x.id ++ encoded xs)) (length y.id ∷ (y.id ++ encoded ys)) e) in
-    let one = tail_same (note_number x.note) (note_number y.note) (length x.id ∷ (x.id ++ encoded xs)) (length y.id ∷ (y.id ++ encoded ys)) e in
+    let note = same_named x.named y.named (head_same (named_number x.named) (named_number y.named) (length x.id ∷ (x.id ++ encoded xs)) (length y.id ∷ (y.id ++ encoded ys)) e) in
+    let one = tail_same (named_number x.named) (named_number y.named) (length x.id ∷ (x.id ++ encoded xs)) (length y.id ∷ (y.id ++ encoded ys)) e in
     let lengths = head_same (length x.id) (length y.id) (x.id ++ encoded xs) (y.id ++ encoded ys) one in
     let two = tail_same (length x.id) (length y.id) (x.id ++ encoded xs) (y.id ++ encoded ys) one in
     let id = same_front x.id y.id (encoded xs) (encoded ys) lengths two in
     let rest = same_references xs ys (same_rest x.id y.id (encoded xs) (encoded ys) lengths two) in
-    let same : x ≡ y = ap (λ (n : Note). reference_of n x.id) note ∙ ap (λ (i : List ℕ). reference_of y.note i) id in
+    let same : x ≡ y = ap (λ (n : Named). reference_of n x.id) note ∙ ap (λ (i : List ℕ). reference_of y.named i) id in
     ap (λ (z : Reference). z ∷ xs) same ∙ ap (λ (zs : List Reference). y ∷ zs) rest

@@ -4,10 +4,10 @@ use Rattle.std.specs.List.{flat_map, list_any}
 use Rattle.std.specs.Option.{option_map_or}
 use Rattle.std.proofs.lemmas.Slice.Eq.{bytes_eq-Decides}
 use Rattle.redl_tree.specs.Model.View.{Element}
-use Rattle.redl_order.specs.Order.{has_id, with_ids, ids, own_id, is_same_note}
+use Rattle.redl_order.specs.Order.{has_id, with_ids, ids, own_id, is_same}
 use Rattle.redl_order.specs.References.{id_in}
 use Rattle.redl_order.specs.declared.places.Places.{Places}
-use Rattle.redl_order.specs.declared.reference.Note.{Note}
+use Rattle.redl_order.specs.declared.reference.Named.{Named}
 use Rattle.redl_order.specs.declared.reference.Reference.{Reference}
 use Rattle.redl_order.specs.Inside.Places.{notes_at, Moves}
 

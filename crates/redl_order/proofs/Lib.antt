@@ -3,3 +3,4 @@ pub mod EncodeLaws
 pub mod FindLaws
 pub mod OrderLaws
 pub mod IdLaws
+pub mod OnceLaws

@@ -1,8 +1,8 @@
--- Worked rows: the order of notes, by computing.
+-- Worked rows: the order of headers and notes, by computing.
 use Prim.Native.String.{String}
 use Rattle.std.proofs.Common.{◌≡◌, ℕ, List, [], ◌∷◌, ◌++◌, codes, map, refl}
 use Rattle.redl_tree.specs.Model.Nodes.{Nodes, no_nodes, Empty, End, ◌⊕◌}
-use Rattle.redl_tree.specs.declared.kinds.Space.TheVariants.{W, Pkg}
+use Rattle.redl_tree.specs.declared.kinds.Space.TheVariants.{W, Pkg, Other}
 use Rattle.redl_tree.proofs.Model.Build.{tag_in, one, opened, closed}
 use Rattle.redl_markup.specs.Attributes.{attributes_of}
 use Rattle.redl_grammar.specs.Characters.{is_name_start, is_name_character, is_space}
@@ -35,3 +35,19 @@ notes : order (part "footnotes" (note "footnote" " w:id=\"1\"" ⊕ note "footnot
     ≡ codes "document" ∷ codes "hdr" ∷ codes "ftr" ∷ codes "footnote3" ∷ codes "footnote1" ∷ codes "endnote2" ∷ []
 unfolding part note attributes_of attribute_in attribute_at name_at word_at char_at name_end name_step may_start may_follow is_name_start is_name_character is_space equated_at quoted_at field_at quote_at is_value
 notes = refl
+
+-- ---- headers
+
+named_part : String → Nodes → Nodes
+named_part name root = one (tag_in Pkg "pkg" "part" name (End [])) (one (tag_in Pkg "pkg" "xmlData" "" (End [])) root)
+
+lead : String → Nodes
+lead tail = one (tag_in Other "" "Relationship" tail Empty) no_nodes
+
+-- headers come in the order of their references, each once, and those that nothing names behind them
+headers : order (named_part " name=\"/a/h1\"" (closed "hdr" " id=\"1\"") ⊕ named_part " name=\"/a/h2\"" (closed "hdr" " id=\"2\"") ⊕ named_part " name=\"/a/h3\"" (closed "hdr" " id=\"3\"")
+    ⊕ named_part " name=\"/a/_rels/d.rels\"" (one (tag_in Other "" "Relationships" "" (End [])) (lead " Id=\"r1\" Target=\"h3\"" ⊕ lead " Id=\"r2\" Target=\"/a/h1\""))
+    ⊕ named_part " name=\"/a/d\"" (opened "document" (closed "headerReference" " r:id=\"r1\"" ⊕ closed "headerReference" " r:id=\"r2\"" ⊕ closed "headerReference" " r:id=\"r1\"")))
+    ≡ codes "document" ∷ codes "hdr3" ∷ codes "hdr1" ∷ codes "hdr2" ∷ []
+unfolding named_part lead attributes_of attribute_in attribute_at name_at word_at char_at name_end name_step may_start may_follow is_name_start is_name_character is_space equated_at quoted_at field_at quote_at is_value
+headers = refl

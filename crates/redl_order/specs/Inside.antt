@@ -2,3 +2,4 @@
 pub mod Encoded
 pub mod Items
 pub mod Places
+pub mod Once

@@ -6,7 +6,7 @@ ghost use Rattle.redl_tree.specs.Model.View.{nodes_of, item_of, tag_of, kids_of}
 ghost use Rattle.redl_order.specs.References.{named_by, named_of, references};
 ghost use Rattle.redl_order.specs.Inside.Items.{item_references};
 
-use crate::reference::{Reference, named_note};
+use crate::reference::{Reference, named_kind};
 use crate::values::value_in;
 use redl_idle::{Shows, show};
 use redl_io::Text;
@@ -27,11 +27,11 @@ impl Seen {
     fn add(&mut self, local: &[u8], tail: &[u8]) -> Result<(), AllocError>
         ensures { OnOk result (self.new.references.items ≡ self.old.references.items ++ named_by local.now tail.now) }
     {
-        let Some(note) = named_note(local) else {
+        let Some(named) = named_kind(local) else {
             return Ok(());
         };
         let id = Text::copy_of(self.alloc, value_in(tail, b"id"))?;
-        self.references.push(Reference { note, id })?;
+        self.references.push(Reference { named, id })?;
         Ok(())
     }
 }

@@ -7,7 +7,7 @@ ghost use Rattle.redl_order.specs.Borrowed.{all_borrowed};
 
 use crate::notes::notes;
 use crate::places::Places;
-use crate::reference::{Note, Reference};
+use crate::reference::{Named, Reference};
 use redl_opc::Package;
 use redl_tree::Elem;
 use std::alloc::{AllocError, Global};
@@ -16,7 +16,7 @@ use std::alloc::{AllocError, Global};
 pub(crate) fn push_named<'n, 'a>(
     alloc: Global,
     pkg: &'n Package<'a>,
-    note: Note,
+    note: Named,
     references: &[Reference],
     named: &mut Vec<&'n Elem<'a>>,
 ) -> Result<(), AllocError>
@@ -31,14 +31,14 @@ pub(crate) fn push_named<'n, 'a>(
 
 // Adds the notes that this reference names, if it is of this kind, and takes them out.
 fn push_one<'n, 'a>(
-    note: Note,
+    note: Named,
     reference: &Reference,
     found: &mut Places<'n, 'a>,
     named: &mut Vec<&'n Elem<'a>>,
 ) -> Result<(), AllocError>
     ensures { OnOk result (Moves (own_id note reference.now) found.old found.new (all_borrowed named.old.items) (all_borrowed named.new.items)) }
 {
-    if note.is(reference.note) {
+    if note.is(reference.named) {
         named.append(&mut found.take(reference.id.as_bytes()))?;
     }
     Ok(())

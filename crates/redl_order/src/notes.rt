@@ -9,7 +9,7 @@ ghost use Rattle.redl_order.specs.Inside.Items.{element_notes, item_notes};
 ghost use Rattle.redl_order.specs.Inside.Places.{notes_at};
 
 use crate::places::Places;
-use crate::reference::Note;
+use crate::reference::Named;
 use redl_opc::Package;
 use redl_tree::{Elem, Node, is_word};
 use std::alloc::{AllocError, Global};
@@ -18,7 +18,7 @@ use std::alloc::{AllocError, Global};
 pub(crate) fn notes<'n, 'a>(
     alloc: Global,
     pkg: &'n Package<'a>,
-    note: Note,
+    note: Named,
 ) -> Result<Places<'n, 'a>, AllocError>
     ensures { IfOk result (λ found. (id : List ℕ) → notes_at found id ≡ filter (has_id id) (notes note pkg.now)) }
 {
@@ -33,7 +33,7 @@ pub(crate) fn notes<'n, 'a>(
 fn add_part<'n, 'a>(
     pkg: &'n Package<'a>,
     part: u32,
-    note: Note,
+    note: Named,
     found: &mut Places<'n, 'a>,
 ) -> Result<(), AllocError>
     ensures { OnOk result ((id : List ℕ) → notes_at found.new id ≡ notes_at found.old id ++ filter (has_id id) (flat_map (λ root. notes_of note root.kids) (stories_of_part pkg.now part))) }
@@ -47,7 +47,7 @@ fn add_part<'n, 'a>(
 // Adds the notes among the kids of a root.
 fn add_notes<'n, 'a>(
     kids: &'n [Node<'a>],
-    note: Note,
+    note: Named,
     found: &mut Places<'n, 'a>,
 ) -> Result<(), AllocError>
     ensures { OnOk result ((id : List ℕ) → notes_at found.new id ≡ notes_at found.old id ++ filter (has_id id) (notes_of note (nodes_of kids.now))) }
@@ -60,7 +60,7 @@ fn add_notes<'n, 'a>(
 
 fn add_note<'n, 'a>(
     node: &'n Node<'a>,
-    note: Note,
+    note: Named,
     found: &mut Places<'n, 'a>,
 ) -> Result<(), AllocError>
     ensures { OnOk result ((id : List ℕ) → notes_at found.new id ≡ notes_at found.old id ++ filter (has_id id) (item_notes note (item_of node.now))) }
@@ -73,7 +73,7 @@ fn add_note<'n, 'a>(
 
 fn add_elem<'n, 'a>(
     elem: &'n Elem<'a>,
-    note: Note,
+    note: Named,
     found: &mut Places<'n, 'a>,
 ) -> Result<(), AllocError>
     ensures { OnOk result ((id : List ℕ) → notes_at found.new id ≡ notes_at found.old id ++ filter (has_id id) (element_notes note (tag_of elem.now) (kids_of elem.now))) }

@@ -10,7 +10,8 @@ ghost use Rattle.redl_order.specs.Borrowed.{all_borrowed};
 
 use crate::find::{Seen, find_nodes};
 use crate::named::push_named;
-use crate::reference::{Note, Reference};
+use crate::once::{document_leads, push_named_stories};
+use crate::reference::{Named, Reference};
 use crate::stories::push_stories;
 use redl_opc::Package;
 use redl_tree::{Elem, Word, is_word};
@@ -23,12 +24,13 @@ pub fn ordered<'n, 'a>(alloc: Global, pkg: &'n Package<'a>) -> Result<Vec<&'n El
     ensures { IfOk result (λ roots. all_borrowed roots.items ≡ ordered pkg.now) }
 {
     let references = references(alloc, pkg)?;
+    let leads = document_leads(alloc, pkg)?;
     let mut roots = Vec::new(alloc);
     push_stories(pkg, Word::Document, &mut roots)?;
-    push_stories(pkg, Word::Hdr, &mut roots)?;
-    push_stories(pkg, Word::Ftr, &mut roots)?;
-    push_named(alloc, pkg, Note::Footnote, &references, &mut roots)?;
-    push_named(alloc, pkg, Note::Endnote, &references, &mut roots)?;
+    push_named_stories(alloc, pkg, Named::Header, &references, &leads, &mut roots)?;
+    push_named_stories(alloc, pkg, Named::Footer, &references, &leads, &mut roots)?;
+    push_named(alloc, pkg, Named::Footnote, &references, &mut roots)?;
+    push_named(alloc, pkg, Named::Endnote, &references, &mut roots)?;
     Ok(roots)
 }
 

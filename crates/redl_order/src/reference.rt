@@ -1,61 +1,81 @@
-//! References to footnotes and endnotes: what they name, and by which id.
+//! References to headers, footers and notes: what they name, and by which id.
 
 ghost use Rattle.std.specs.Prelude.{◌≡◌};
 ghost use Rattle.redl_tree.specs.Roles.Words.{name_of};
-ghost use Rattle.redl_order.specs.References.{named_note};
-ghost use Rattle.redl_order.specs.Order.{is_same_note, note_name};
+ghost use Rattle.redl_order.specs.References.{named_kind, named_number};
+ghost use Rattle.redl_order.specs.Order.{is_same, local_name};
 
 use redl_io::Text;
 use redl_tree::Word;
 
-/// The two kinds of notes.
+/// What a document names by references.
 #[derive(Clone, Copy, Debug, PartialEq, Eq)]
-pub enum Note {
-    /// At the foot of a page.
+pub enum Named {
+    /// A header.
+    Header,
+    /// A footer.
+    Footer,
+    /// A note at the foot of a page.
     Footnote,
-    /// At the end of a section or of the document.
+    /// A note at the end of a section or of the document.
     Endnote,
 }
 
-/// A reference to a note.
+/// A reference.
 #[derive(Drop)]
 pub struct Reference {
     /// What it names.
-    pub note: Note,
+    pub named: Named,
     /// Its id, as it is written.
     pub id: Text,
 }
 
-impl Note {
-    /// The local name of such a note.
+impl Named {
+    /// The local name of such a story or note.
     pub(crate) fn word(self) -> Word
-        ensures { name_of result ≡ note_name self }
+        ensures { name_of result ≡ local_name self }
     {
         match self {
-            Note::Footnote => Word::Footnote,
-            Note::Endnote => Word::Endnote,
+            Named::Header => Word::Hdr,
+            Named::Footer => Word::Ftr,
+            Named::Footnote => Word::Footnote,
+            Named::Endnote => Word::Endnote,
         }
     }
 
-    pub(crate) fn is(self, other: Note) -> bool
-        ensures { result ≡ is_same_note self other }
+    fn number(self) -> u8
+        ensures { result ≡ named_number self }
     {
-        match (self, other) {
-            (Note::Footnote, Note::Footnote) | (Note::Endnote, Note::Endnote) => true,
-            _ => false,
+        match self {
+            Named::Header => 0,
+            Named::Footer => 1,
+            Named::Footnote => 2,
+            Named::Endnote => 3,
         }
+    }
+
+    pub(crate) fn is(self, other: Named) -> bool
+        ensures { result ≡ is_same self other }
+    {
+        self.number() == other.number()
     }
 }
 
 /// What an element of WordprocessingML with this local name names.
-pub(crate) fn named_note(local: &[u8]) -> Option<Note>
-    ensures { result ≡ named_note local.now }
+pub(crate) fn named_kind(local: &[u8]) -> Option<Named>
+    ensures { result ≡ named_kind local.now }
 {
+    if local == b"headerReference".as_slice() {
+        return Some(Named::Header);
+    }
+    if local == b"footerReference".as_slice() {
+        return Some(Named::Footer);
+    }
     if local == b"footnoteReference".as_slice() {
-        return Some(Note::Footnote);
+        return Some(Named::Footnote);
     }
     if local == b"endnoteReference".as_slice() {
-        return Some(Note::Endnote);
+        return Some(Named::Endnote);
     }
     None
 }

@@ -25,8 +25,8 @@ pub(crate) fn push_stories<'n, 'a>(
     Ok(())
 }
 
-// The same of one part.
-fn push_story<'n, 'a>(
+/// The same of one part.
+pub(crate) fn push_story<'n, 'a>(
     pkg: &'n Package<'a>,
     part: u32,
     word: Word,

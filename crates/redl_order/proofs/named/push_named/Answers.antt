@@ -1,7 +1,7 @@
 -- Reference after reference.
 use Rattle.std.proofs.Common.{◌+◌, ◌++◌, ap, sym, ◌∙◌, arith, subst, refl, drop, List, ℕ, get_or, append-nil}
 use Rattle.std.proofs.lemmas.List.{at_drop_more, at_drop_all}
-use Rattle.redl_order.specs.Order.{ids, notes, with_ids, is_same_note}
+use Rattle.redl_order.specs.Order.{ids, notes, with_ids, is_same}
 use Rattle.redl_order.specs.Borrowed.{all_borrowed}
 use Rattle.redl_order.proofs.IdLaws.{SoFar, goes_on}
 use Rattle.redl_order.proofs.named.push_named.Goals as goal
@@ -18,7 +18,7 @@ loop-reference-preserved c =
     let here = at_drop_more (ids c.args.note) references i r (omega arith) in
     let Left : List (List ℕ) → Type 0 = λ rest. SoFar c.loop-reference.found (all_borrowed c.loop-reference.named.items) rest
     (all_borrowed c.args.named.now.items ++ with_ids (ids c.args.note references) (notes c.args.note c.args.pkg.now)) in
-    goes_on (is_same_note c.args.note r.note) r.id more c.loop-reference.found c.push_one.new.found (all_borrowed c.loop-reference.named.items) (all_borrowed c.push_one.new.named.items) _
+    goes_on (is_same c.args.note r.named) r.id more c.loop-reference.found c.push_one.new.found (all_borrowed c.loop-reference.named.items) (all_borrowed c.push_one.new.named.items) _
     (subst Left (rw (← c.reference-item.is) at here) c.loop-reference.invariant) c.in_ok-push_one.ensures
 
 pub returns : goal.returns
