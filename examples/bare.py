@@ -145,14 +145,65 @@ def named(package):
     return found
 
 
+def inside(element, local):
+    """The elements with this local name in an element of no namespace that is known."""
+    return [kid for kid in element.kids if isinstance(kid, reading.Element) and kid.local == local]
+
+
+def parts_of(package):
+    """Each part of a package: its name and the root of its data, or None."""
+    for root in package.nodes:
+        for part in root.kids if isinstance(root, reading.Element) else ():
+            if isinstance(part, reading.Element):
+                roots = [kid for data in inside(part, "xmlData") for kid in data.kids if isinstance(kid, reading.Element)]
+                yield part.attribute("name"), roots[0] if roots else None
+
+
+def led(source, target):
+    """The name to which a target leads from the part with the name `source`."""
+    steps = [] if target.startswith("/") else source.split("/")[:-1]
+    for step in target.split("/"):
+        if step == "..":
+            steps = steps[:-1]
+        elif step != ".":
+            steps.append(step)
+    return "/".join(steps)
+
+
+def targets(parts, source):
+    """The numbers of the parts to which the relationships of a part lead, by their ids."""
+    names = [name for name, _ in parts]
+    folder, _, file = source.rpartition("/")
+    own, found = "%s/_rels/%s.rels" % (folder, file), {}
+    root = parts[names.index(own)][1] if own in names else None
+    if root is not None and root.space == "other" and root.local == "Relationships":
+        for one in inside(root, "Relationship"):
+            if one.space == "other" and one.written_value("TargetMode") != "External":
+                name = led(source, one.attribute("Target") or "")
+                found.setdefault(one.written_value("Id") or "", names.index(name) if name in names else None)
+    return found
+
+
+def stories_in_order(package):
+    """The document, and then the headers and footers in the order of their references, those without one at the end."""
+    parts = list(parts_of(package))
+    documents = [root for _, root in parts if root is not None and root.is_w("document")]
+    leads = targets(parts, next(name for name, root in parts if root is documents[0]))
+    yield from documents
+    for local, reference in (("hdr", "headerReference"), ("ftr", "footerReference")):
+        order = [leads.get(one.written_value("id") or "") for document in documents for one in reading.elements(document.kids) if one.is_w(reference)]
+        for part in dict.fromkeys([one for one in order if one is not None] + list(range(len(parts)))):
+            root = parts[part][1]
+            if root is not None and root.is_w(local):
+                yield root
+
+
 def bare_text(package):
     """The bare text, as bytes."""
     writer, roots, ids = Writer(), [root for _, root in package.stories], named(package)
-    for local, kind in STORIES.items():
-        for root in roots:
-            if root.local == local:
-                writer.line("= " + kind)
-                put(writer, root.kids, frozenset())
+    for root in stories_in_order(package):
+        writer.line("= " + STORIES[root.local])
+        put(writer, root.kids, frozenset())
     for kind in NOTES:
         notes = [note for root in roots for note in reading.kids_named(root.kids, kind) if note.attribute("type") is None]
         for ident in ids[kind]:
