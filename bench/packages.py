@@ -146,6 +146,38 @@ def with_notes(package, pick, plain=False):
     return RUN.sub(reference, package)
 
 
+R_NAME = b"http://schemas.openxmlformats.org/officeDocument/2006/relationships"
+LEADS = b'<pkg:part pkg:name="/word/_rels/document.xml.rels" pkg:contentType="x"><pkg:xmlData><Relationships>%s</Relationships></pkg:xmlData></pkg:part>'
+# Ways to write the target of a part in the same folder, and targets that lead nowhere.
+TARGETS = [b"%s.xml", b"/word/%s.xml", b"./%s.xml", b"../word/%s.xml", b"x/../%s.xml"]
+WRONG_TARGETS = [b"%s", b"%s.xml/..", b"../%s.xml", b"//word/%s.xml"]
+
+
+def with_headers(package, pick, plain=False):
+    """The package with headers and footers, and with references to them in some of its runs. Where they aren't plain, some have no
+    reference, no relationship or one that leads elsewhere, and some ids are there twice."""
+    parts, leads = [], []
+    for number in range(pick.randint(1, 6)):
+        root = pick.choice([b"hdr", b"ftr"])
+        name = root + b"%d" % number
+        text = b"<w:p><w:r><w:t>%s %d</w:t></w:r></w:p>" % (root, number)
+        parts.append(PART % (name, root, W_NAME, text, root))
+        target = pick.choice(TARGETS[:2] if plain else TARGETS + WRONG_TARGETS) % name
+        kind = b"header" if root == b"hdr" else b"footer"
+        mode = b"" if plain or pick.random() > 0.1 else b' TargetMode="External"'
+        ident = number if plain else pick.randrange(number + 1)
+        leads.append((b'<Relationship Id="r%d" Type="%s/%s" Target="%s"%s/>' % (ident, R_NAME, kind, target, mode), kind, ident))
+    named = leads if plain else pick.choices(leads, k=pick.randint(0, 6))
+    pick.shuffle(named)
+    references = b"".join(b'<w:%sReference xmlns:r="%s" w:type="default" r:id="r%d"/>' % (kind, R_NAME, ident) for _, kind, ident in named)
+    parts += [LEADS % b"".join(lead for lead, _, _ in leads)] if plain or pick.random() > 0.1 else []
+    pick.shuffle(parts)
+    for one in parts:
+        place = pick.choice([package.index(b"<pkg:part"), package.rindex(b"</pkg:package>")])
+        package = package[:place] + one + package[place:]
+    return package.replace(b"</w:body>", b"<w:p><w:pPr><w:sectPr>%s</w:sectPr></w:pPr></w:p></w:body>" % references, 1)
+
+
 TAG = re.compile(rb"<[^<>]*>")
 
 

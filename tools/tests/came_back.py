@@ -20,7 +20,7 @@ sys.dont_write_bytecode = True
 sys.path[:0] = [os.path.join(TOP, "tools"), os.path.join(TOP, "bench"), EXAMPLES, HERE]
 sys.setrecursionlimit(100000)
 
-from packages import small_package, with_fields, with_notes
+from packages import small_package, with_fields, with_headers, with_notes
 from returned import bare, reader
 from returned.check import answer_for
 from returned.program import Program
@@ -69,7 +69,7 @@ def some_words(count, draw):
 
 
 def read_the_same(program, one, other):
-    """Whether two packages have the same bare text, but for the order of headers and footers, and of two marks with one sign.
+    """Whether two packages have the same bare text, but for the order of two marks with one sign, and of headers without text.
 
     (Such marks come in the order of the bytes of their names, and a name may be written with references or without.)
     """
@@ -140,6 +140,8 @@ def pairs_by_chance(path, seconds, most, first):
             package = with_fields(package, random.Random(number))
         elif number % 4 == 1:
             package = with_notes(package, random.Random(number), plain=True)
+        elif number % 4 == 2:
+            package = with_headers(package, random.Random(number), plain=True)
         pairs.add(path, "package %d" % number, package, number)
         number += 1
     tell("random packages give no other text", "; ".join(pairs.wrong[:5]))
