@@ -64,9 +64,9 @@ def is_same(pair):
 
 
 def indexed(package):
-    """The stories of a package, each with its place among those of its kind."""
+    """The stories of a package, each with its place among those of its kind in a bare text."""
     counts = {}
-    for one in package.stories():
+    for one in package.in_order():
         if one.root in KINDS:
             yield counts.get(one.root, 0), one
             counts[one.root] = counts.get(one.root, 0) + 1

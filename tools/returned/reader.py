@@ -3,7 +3,7 @@ from xml.parsers import expat
 
 from returned.contents import Contents
 from returned.moves import number
-from returned.properties import Properties
+from returned.properties import REFERENCES, Properties
 from returned.streams import Package, Stream
 
 W_NAMES = (
@@ -105,6 +105,8 @@ class Reader(Contents, Properties):
         at = self.position
         self.position += 1
         if self.quiet_from is not None:
+            if local in REFERENCES and self.story == "document":
+                self.package.header_ids.append((self.part, self.attribute(attributes, "id")))
             self.quiet_start(frame, at)
         elif word == "w":
             self.open_start(frame, at)
@@ -117,6 +119,9 @@ class Reader(Contents, Properties):
         """Whether an element outside stories is the root of one, which begins here."""
         if word == "pkg" and local == "part":
             self.part = self.attribute(attributes, "name") or ""
+        elif local == "Relationship" and word == "" and self.attribute(attributes, "TargetMode") != "External":
+            targets = self.package.targets.setdefault(self.part, {})
+            targets.setdefault(self.attribute(attributes, "Id"), self.attribute(attributes, "Target") or "")
         if len(self.stack) != 3 or word != "w" or local not in ROOTS:
             return False
         self.story, self.story_name, self.depth_of_story = local, self.part, 4

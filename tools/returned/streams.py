@@ -114,6 +114,17 @@ class Stream:
         return self.text.count(PARA, 0, place) + 1
 
 
+def led(folder, target):
+    """The name to which a target leads from a folder."""
+    steps = [] if target.startswith("/") else folder.split("/")
+    for step in target.split("/"):
+        if step == "..":
+            steps = steps[:-1]
+        elif step != ".":
+            steps = steps + [step]
+    return "/".join(steps)
+
+
 class Package:
     """The streams of a package, its members, and its revisions with their numbers."""
 
@@ -125,9 +136,21 @@ class Package:
         self.kinds = []
         self.note_order = {"footnote": [], "endnote": [], "comment": []}
         self.twins = []  # pairs of a member in the first form of some content and the one in its second form
+        self.header_ids = []  # of the references to headers and footers, in their order, each with the part where it is
+        self.targets = {}  # for each part of relationships where they lead, by their ids
 
     def stories(self):
         return [one for one in self.streams if isinstance(one.name, str)]
+
+    def in_order(self):
+        """The stories as a bare text has them: headers and footers in the order of their references, the others behind them."""
+        named = {}
+        for part, ident in self.header_ids:
+            folder, _, file = part.rpartition("/")
+            target = self.targets.get("%s/_rels/%s.rels" % (folder, file), {}).get(ident)
+            if target is not None:
+                named.setdefault(led(folder, target), len(named))
+        return sorted(self.stories(), key=lambda one: named.get(one.name, len(named)))
 
     def notes(self, kind):
         """The notes of a kind, by their ids."""
