@@ -10,7 +10,7 @@ from returned.counter import foreign_revisions, proposals
 from returned.differences import tell_clauses
 from returned.find import find, words_to_say
 from returned.pairs import pair_comments
-from returned.reader import read
+from returned.reader import read, read_both
 from returned.words import ACCEPT, EITHER, OPEN, REJECT, UNTOLD
 
 # Who the journals that no one sees are by.
@@ -38,10 +38,10 @@ class Answer:
 
 def answer_for(program, package, back):
     """The answer for two packages, each by its name for the program and its bytes."""
-    first, second = read(package[1]), read(back[1])
+    first, second = read_both(package[1], back[1])
     names = names_kept(first, second)
     if names != "all":
-        first, second = read(package[1], True, names), read(back[1], True, names)
+        first, second = read_both(package[1], back[1], True, names)
     answer = Answer()
     answer.view, answer.differences = View(True, names), lost_places(first, second)
     if answer.differences:
@@ -49,7 +49,7 @@ def answer_for(program, package, back):
         return answer
     answer = attempt(program, package, back, first, second, View(True, names))
     if answer.differences and answer.objects_differ:
-        first, second = read(package[1], False, names), read(back[1], False, names)
+        first, second = read_both(package[1], back[1], False, names)
         other = attempt(program, package, back, first, second, View(False, names))
         answer = answer if other.differences else other
     return answer

@@ -1,4 +1,6 @@
 """Reads a package in one XML file (Flat OPC) into its streams, by a parser of namespaces and in one pass."""
+import os
+import pickle
 from xml.parsers import expat
 
 from returned.contents import Contents
@@ -17,6 +19,8 @@ ROOTS = ("document", "hdr", "ftr", "footnotes", "endnotes", "comments")
 # The blocks after which a paragraph is not the last one of its list.
 THICK = ("p", "tbl", "sdt", "customXml", "altChunk")
 MARKS = ("ins", "del", "moveFrom", "moveTo")
+# Two packages of so many bytes each are read side by side.
+LARGE = 1000000
 
 
 class Unreadable(Exception):
@@ -184,3 +188,31 @@ class Reader(Contents, Properties):
 def read(data, with_objects=True, names="all"):
     """The streams of a package's bytes."""
     return Reader(with_objects, names).read(data)
+
+
+def read_both(one, other, *view):
+    """The streams of two packages. Of large ones the second is read in a process of its own, beside the first."""
+    if min(len(one), len(other)) < LARGE:
+        return read(one, *view), read(other, *view)
+    handle = os.memfd_create("read", 0)
+    with open(handle, "w+b") as file:
+        child = os.fork()
+        if not child:
+            read_aside(other, view, file)
+        try:
+            first = read(one, *view)
+        finally:
+            ended = os.waitpid(child, 0)[1]
+        file.seek(0)
+        return first, pickle.load(file) if ended == 0 else read(other, *view)
+
+
+def read_aside(data, view, file):
+    """The whole of a process that puts the streams into a file. What goes wrong in it is met again by whoever needs them."""
+    status = 1
+    try:
+        pickle.dump(read(data, *view), file, pickle.HIGHEST_PROTOCOL)
+        file.flush()
+        status = 0
+    finally:
+        os._exit(status)

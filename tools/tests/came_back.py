@@ -263,10 +263,21 @@ def field_in_other_form(path):
     desk.close()
 
 
+def read_aside(path):
+    """Large packages are read side by side, with the same answer."""
+    desk, _, back = contract(path, 6)
+    wanted, kept = desk.answer(back).said, reader.LARGE
+    reader.LARGE = 0
+    answer = desk.answer(back)
+    reader.LARGE = kept
+    tell("two packages that are read side by side", None if answer.said == wanted and not answer.differences else "other decisions")
+    desk.close()
+
+
 def main(path, seconds=20, most=1000, first=0):
     pairs_of_examples(path)
     pairs_by_chance(path, float(seconds), int(most), int(first))
-    for case in (untracked_edits, tracked_edits, deleted_by_reviewer, half_decisions, without_names, without_picture, field_in_other_form):
+    for case in (untracked_edits, tracked_edits, deleted_by_reviewer, half_decisions, without_names, without_picture, field_in_other_form, read_aside):
         case(path)
 
 
