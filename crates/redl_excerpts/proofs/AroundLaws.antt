@@ -4,6 +4,7 @@ use Rattle.std.proofs.Math.ListN.{set}
 use Rattle.std.proofs.lemmas.Bool.{eqb-true, eqb-false}
 use Rattle.std.proofs.lemmas.Option.{slice_get_within}
 use Rattle.std.specs.Option.{option_map}
+use Rattle.redl_changed.specs.declared.changed.ChangedSaid.{ChangedSaid}
 use Rattle.redl_index.specs.declared.revision.Revision.{Revision}
 use Rattle.redl_tree.specs.Model.Nodes.{Nodes, Tag}
 use Rattle.redl_excerpts.specs.declared.around.Away.{Away}
@@ -18,17 +19,17 @@ use Rattle.redl_excerpts.proofs.TellLaws.{slice_get-here, slice_get-elsewhere, w
 -- ---- one excerpt
 
 -- once a member inside told, what was put away comes back, and what comes after it is that of the last one
-closed-begun : (words : Kept) (id : Option (List ℕ)) (before behind : List ℕ) (away : Away) (end : List ℕ) (mentions : List Mention)
-    → closed (told_all (record { words = words; id = id; before = before; behind = behind; begun = true }) mentions) away end
-    ≡ told_all (record { words = words; id = away.id; before = away.before; behind = behind; begun = true }) mentions
-closed-begun words id before behind away end [] = refl
-closed-begun words id before behind away end (mention ∷ later) = closed-begun (heard words mention.said) id before mention.behind away end later
+closed-begun : (words : Kept) (id : Option (List ℕ)) (before behind : List ℕ) (changed : ChangedSaid) (away : Away) (end : List ℕ) (mentions : List Mention)
+    → closed (told_all (record { words = words; id = id; before = before; behind = behind; changed = changed; begun = true }) mentions) away end
+    ≡ told_all (record { words = words; id = away.id; before = away.before; behind = behind; changed = away.changed; begun = true }) mentions
+closed-begun words id before behind changed away end [] = refl
+closed-begun words id before behind changed away end (mention ∷ later) = closed-begun (heard words mention.said) id before mention.behind changed away end later
 
 closed-told : (excerpt : Excerpt) (own : Mention) (inner : List Mention)
     → closed (told_all (opened excerpt own.said) inner) (first_of excerpt own) own.behind ≡ told_all excerpt (own ∷ inner)
 closed-told excerpt own [] = refl
 closed-told excerpt own (mention ∷ more) =
-    closed-begun (heard (heard excerpt.words own.said) mention.said) mention.id mention.before mention.behind
+    closed-begun (heard (heard excerpt.words own.said) mention.said) mention.id mention.before mention.behind mention.changed
     (first_of excerpt own) own.behind more
 
 -- ---- all of them
@@ -94,13 +95,13 @@ member-around revisions at count here tag kids around number v = by (tag.rev == 
 
 -- where the nodes in it stand
 pub inside-around : (revisions : List Revision) (count : ℕ) (here : Where) (tag : Tag) (kids below : Nodes) → IsAround revisions tag kids here.place count → below ≡ kids
-    → record { in_text = false; owner = below; owner_place = here.place; place = here.place; whole = here.whole } ≡ inside here tag kids
+    → record { in_text = false; siblings = below; owner = below; owner_place = here.place; place = here.place; whole = here.whole } ≡ inside here tag kids
 inside-around revisions count here tag kids below around same =
     ap (standing false) same ∙ ap (λ (b : Bool). standing b kids) (sym around.no_text)
     ∙ sym (inside-element here tag kids around.no_paragraph around.no_properties ∙ ap (in_element here tag kids) around.says_nothing)
   where
     standing : Bool → Nodes → Where
-    standing in_text owner = record { in_text = in_text; owner = owner; owner_place = here.place; place = here.place; whole = here.whole }
+    standing in_text owner = record { in_text = in_text; siblings = owner; owner = owner; owner_place = here.place; place = here.place; whole = here.whole }
 
 -- the excerpt that was opened is still at its place
 pub tells-keep : (old mid : List Excerpt) (at : ℕ) (new : Excerpt) (mentions_of : ℕ → List Mention) → at < length old → TellsEach (set old at new) mid mentions_of → at < length mid

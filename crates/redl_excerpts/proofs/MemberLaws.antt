@@ -49,7 +49,7 @@ mentions-in_front moved v here (idle_item t) rest = mentions_idle moved v here t
 pub inside-paragraph : (here : Where) (tag : Tag) (kids : Nodes) → is "p" tag ≡ true → inside here tag kids ≡ in_paragraph kids (line_of (said true false kids))
 inside-paragraph here tag kids para = rw para refl
 
-pub inside-quiet : (here : Where) (tag : Tag) (kids : Nodes) → is "p" tag ≡ false → is_quiet tag ≡ true → inside here tag kids ≡ record here { in_text = false }
+pub inside-quiet : (here : Where) (tag : Tag) (kids : Nodes) → is "p" tag ≡ false → is_quiet tag ≡ true → inside here tag kids ≡ record here { in_text = false; siblings = kids }
 inside-quiet here tag kids para quiet = rw (para, quiet) refl
 
 pub inside-element : (here : Where) (tag : Tag) (kids : Nodes) → is "p" tag ≡ false → is_quiet tag ≡ false → inside here tag kids ≡ in_element here tag kids (along here.place (start_said tag))

@@ -2,6 +2,7 @@
 use Rattle.std.specs.Prelude.{ℕ, ◌+◌, List, [], ◌∷◌, map, All, IfSome, None, if◌then◌else◌}
 use Rattle.std.specs.Option.{option_map}
 use Rattle.std.specs.Str.{IsUtf8, is_utf8}
+use Rattle.redl_changed.specs.Changed.{nothing_changed}
 use Rattle.redl_excerpts.specs.declared.excerpt.Excerpt.{Excerpt}
 use Rattle.redl_excerpts.specs.Phrases.{kept_text}
 use Rattle.redl_excerpts.specs.Excerpts.{excerpts_of}
@@ -27,12 +28,13 @@ detail_of excerpt entries = record {
   before = text_or_nothing excerpt.before;
   after = text_or_nothing excerpt.behind;
   id = option_map text_or_nothing excerpt.id;
+  changed = excerpt.changed;
   says = map last_word_of entries;
 }
 
 -- no detail
 abbrev pub no_detail : Detail
-no_detail = record { words = []; before = []; after = []; id = None; says = [] }
+no_detail = record { words = []; before = []; after = []; id = None; changed = nothing_changed; says = [] }
 
 -- the details of revisions, of which the first has this number
 abbrev pub details_from : ℕ → List Excerpt → (ℕ → List Entry) → List Detail

@@ -2,6 +2,7 @@
 use Rattle.std.specs.Prelude.{◌≡◌, ℕ, ◌+◌, ◌-◌, Bool, true, false, List, [], ◌∷◌, map, slice_get, Option, None, Some, if◌then◌else◌}
 use Rattle.std.specs.List.{flat_map}
 use Rattle.std.specs.Option.{option_map}
+use Rattle.redl_changed.specs.Changed.{nothing_changed}
 use Rattle.redl_kinds.specs.declared.rev_kind.RevKind.{RevKind}
 use Rattle.redl_kinds.specs.declared.rev_kind.RevKind.TheVariants.{Content, Move, Mark, Row, Cell, Change}
 use Rattle.redl_index.specs.declared.revision.Revision.{Revision}
@@ -18,6 +19,7 @@ told excerpt mention = record {
   id = if excerpt.begun then excerpt.id else mention.id;
   before = if excerpt.begun then excerpt.before else mention.before;
   behind = mention.behind;
+  changed = if excerpt.begun then excerpt.changed else mention.changed;
   begun = true;
 }
 
@@ -39,7 +41,7 @@ is_trimmed kind = if is_stretch kind then false else true
 
 -- nothing is told so far; there is room for 200 characters
 abbrev pub nothing_told : RevKind → Excerpt
-nothing_told kind = record { words = nothing_heard 200 (is_trimmed kind); id = None; before = []; behind = []; begun = false }
+nothing_told kind = record { words = nothing_heard 200 (is_trimmed kind); id = None; before = []; behind = []; changed = nothing_changed; begun = false }
 
 abbrev pub is_move : RevKind → Bool
 is_move Move = true

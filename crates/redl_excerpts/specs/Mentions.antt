@@ -1,7 +1,10 @@
 -- What a story tells of a revision: for each of its members the text that it is of, and what stands before and behind that text
 -- in the same paragraph (our own rule). A row's or cell's member is of the row or cell, a change of properties of what the
 -- properties are of, the mark of a paragraph of its end, and run content of what it holds. Of a move the run content of its source tells.
+-- A change of properties also tells which properties it changes.
 use Rattle.std.specs.Prelude.{ℕ, ◌==◌, ◌&&◌, Bool, true, false, List, [], ◌∷◌, ◌++◌, codes, Option, if◌then◌else◌}
+use Rattle.redl_changed.specs.Changed.{changed_of, nothing_changed}
+use Rattle.redl_changed.specs.declared.changed.ChangedSaid.{ChangedSaid}
 use Rattle.redl_shown.specs.Shown.{shown}
 use Rattle.redl_stamp.specs.Attribute.{attribute_value}
 use Rattle.redl_tree.specs.Model.Nodes.{Tag, Nodes, no_nodes, bytes, element, Item, bytes_item, element_item, idle_item}
@@ -15,17 +18,19 @@ use Rattle.redl_excerpts.specs.Said.{said, element_said, start_said, holds_text}
 use Rattle.redl_excerpts.specs.Lines.{line_of, line_start, line_end, along, before, behind}
 use Rattle.redl_excerpts.specs.declared.line.Place.{Place}
 
--- what one member tells: its element's own id, its text, and what stands before and behind
+-- what one member tells: its element's own id, its text, what stands before and behind, and which properties it changes
 pub record Mention : Type 0 where
   pub id : Option (List ℕ)
   pub said : List ℕ
   pub before : List ℕ
   pub behind : List ℕ
+  pub changed : ChangedSaid
 
--- where nodes stand: in an element that holds text or not; what the nearest ancestor holds that is no properties (the owner), and
--- the place in the line where that begins; the place of the nodes; and the whole line
+-- where nodes stand: in an element that holds text or not; the list that they are of; what the nearest ancestor holds that is no
+-- properties (the owner), and the place in the line where that begins; the place of the nodes; and the whole line
 pub record Where : Type 0 where
   pub in_text : Bool
+  pub siblings : Nodes
   pub owner : Nodes
   pub owner_place : Place
   pub place : Place
@@ -33,21 +38,21 @@ pub record Where : Type 0 where
 
 -- outside of all paragraphs
 abbrev pub outside : Where
-outside = record { in_text = false; owner = no_nodes; owner_place = line_end; place = line_end; whole = [] }
+outside = record { in_text = false; siblings = no_nodes; owner = no_nodes; owner_place = line_end; place = line_end; whole = [] }
 
 -- in a paragraph that holds these nodes
 abbrev pub in_paragraph : Nodes → List ℕ → Where
-in_paragraph kids line = record { in_text = false; owner = kids; owner_place = line_start line; place = line_start line; whole = line }
+in_paragraph kids line = record { in_text = false; siblings = kids; owner = kids; owner_place = line_start line; place = line_start line; whole = line }
 
 -- in another element, whose kids begin at this place
 abbrev pub in_element : Where → Tag → Nodes → Place → Where
-in_element here tag kids place = record { in_text = holds_text tag; owner = kids; owner_place = place; place = place; whole = here.whole }
+in_element here tag kids place = record { in_text = holds_text tag; siblings = kids; owner = kids; owner_place = place; place = place; whole = here.whole }
 
 -- where the kids of an element stand
 abbrev pub inside : Where → Tag → Nodes → Where
 inside here tag kids =
     if is "p" tag then in_paragraph kids (line_of (said true false kids))
-    else if is_quiet tag then record here { in_text = false }
+    else if is_quiet tag then record here { in_text = false; siblings = kids }
     else in_element here tag kids (along here.place (start_said tag))
 
 -- what one node says in the line
@@ -68,11 +73,16 @@ stretch_in line tag place nodes = record {
   said = said false false nodes;
   before = before line place;
   behind = behind line (along place (said true false nodes));
+  changed = nothing_changed;
 }
+
+-- a member that changes properties so
+abbrev pub changing : ChangedSaid → Mention → Mention
+changing changed mention = record mention { changed = changed }
 
 -- a member is of the end of the paragraph with this line (U+00B6)
 abbrev pub paragraph_end_in : List ℕ → Tag → Mention
-paragraph_end_in line tag = record { id = id_of tag; said = 194 ∷ 182 ∷ []; before = before line line_end; behind = [] }
+paragraph_end_in line tag = record { id = id_of tag; said = 194 ∷ 182 ∷ []; before = before line line_end; behind = []; changed = nothing_changed }
 
 abbrev pub is_target : Trace → Bool
 is_target To = true
@@ -89,7 +99,7 @@ told_by moved here (Content trace) tag kids = unless_target moved trace (stretch
 told_by moved here (Mark trace) tag kids = if moved then [] else paragraph_end_in here.whole tag ∷ []
 told_by moved here (Row trace) tag kids = stretch_in here.whole tag here.owner_place here.owner ∷ []
 told_by moved here (Cell trace) tag kids = stretch_in here.whole tag here.owner_place here.owner ∷ []
-told_by moved here (Change prop) tag kids = stretch_in here.whole tag here.owner_place here.owner ∷ []
+told_by moved here (Change prop) tag kids = changing (changed_of prop here.siblings kids) (stretch_in here.whole tag here.owner_place here.owner) ∷ []
 told_by moved here Marker tag kids = []
 
 -- the same of an element, where it is a member of the revision with this number

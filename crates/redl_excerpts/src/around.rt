@@ -9,6 +9,7 @@ ghost use Rattle.redl_tree.specs.Model.View.{kids_of, tag_of};
 
 use crate::excerpt::Excerpt;
 use crate::{Place, behind, tell_nodes};
+use redl_changed::ChangedSaid;
 use redl_io::Text;
 use redl_tree::Elem;
 use std::alloc::{AllocError, Global};
@@ -19,6 +20,7 @@ use std::mem;
 pub(crate) struct Away {
     id: Option<Text>,
     before: Text,
+    changed: ChangedSaid,
 }
 
 impl Excerpt {
@@ -38,9 +40,11 @@ impl Excerpt {
         tell_nodes(elem.kids(), false, false, &mut self.words)?;
         self.begun = false;
         let nothing = Text::copy_of(alloc, b"")?;
+        let unchanged = ChangedSaid::none(alloc)?;
         Ok(Away {
             id: self.id.take(),
             before: mem::replace(&mut self.before, nothing),
+            changed: mem::replace(&mut self.changed, unchanged),
         })
     }
 
@@ -59,6 +63,7 @@ impl Excerpt {
         }
         self.id = away.id;
         self.before = away.before;
+        self.changed = away.changed;
         self.begun = true;
         Ok(())
     }

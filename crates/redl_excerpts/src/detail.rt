@@ -8,6 +8,7 @@ ghost use Rattle.redl_excerpts.specs.Details.{IsDetail, detail_of, details_of, n
 use crate::Excerpt;
 use crate::checked::{kept, kept_if_any};
 use crate::last_word::Says;
+use redl_changed::ChangedSaid;
 use redl_io::Text;
 use redl_join::LastWords;
 use redl_journal::Entry;
@@ -24,6 +25,8 @@ pub struct Detail {
     pub after: Text,
     /// The own id of the revision's first element, where it has one.
     pub id: Option<Text>,
+    /// The properties that the revision changes.
+    pub changed: ChangedSaid,
     /// Who said what.
     pub says: Says,
 }
@@ -38,6 +41,7 @@ impl Detail {
             before: Text::copy_of(alloc, b"")?,
             after: Text::copy_of(alloc, b"")?,
             id: None,
+            changed: ChangedSaid::none(alloc)?,
             says: Says::none(alloc),
         })
     }
@@ -52,6 +56,7 @@ impl Detail {
             id,
             before,
             behind,
+            changed,
             ..
         } = excerpt;
         let words = kept(alloc, words.into_text(alloc)?)?;
@@ -64,6 +69,7 @@ impl Detail {
             before,
             after,
             id,
+            changed,
             says,
         })
     }
@@ -76,12 +82,14 @@ impl Detail {
         let before = self.before.copy(alloc)?;
         let after = self.after.copy(alloc)?;
         let id = copy_if_any(alloc, &self.id)?;
+        let changed = self.changed.copy(alloc)?;
         let says = self.says.copy(alloc)?;
         Ok(Detail {
             words,
             before,
             after,
             id,
+            changed,
             says,
         })
     }

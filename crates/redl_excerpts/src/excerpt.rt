@@ -1,6 +1,7 @@
 //! An excerpt: the words of a revision, and what is before and behind them, as its members tell them one by one.
 
 ghost use Rattle.std.specs.Prelude.{◌≡◌, IfOk, OnOk, true, false, if◌then◌else◌};
+ghost use Rattle.redl_changed.specs.Changed.{nothing_changed};
 ghost use Rattle.redl_tree.specs.Model.View.{nodes_of, tag_of};
 ghost use Rattle.redl_excerpts.specs.Excerpts.{is_trimmed, nothing_told, told};
 ghost use Rattle.redl_excerpts.specs.Mentions.{id_of, paragraph_end_in, stretch_in};
@@ -8,6 +9,7 @@ ghost use Rattle.redl_excerpts.specs.Lines.{along, before};
 ghost use Rattle.redl_excerpts.specs.Said.{said};
 
 use crate::{Ear, Phrase, Place, before, behind, tell_nodes};
+use redl_changed::ChangedSaid;
 use redl_io::Text;
 use redl_kinds::RevKind;
 use redl_stamp::attribute;
@@ -28,6 +30,8 @@ pub struct Excerpt {
     pub before: Text,
     /// What comes after its last member in the same paragraph, at most 40 characters.
     pub behind: Text,
+    /// The properties that its first member changes.
+    pub changed: ChangedSaid,
     /// Whether a member told.
     pub begun: bool,
 }
@@ -42,6 +46,7 @@ impl Excerpt {
             id: None,
             before: Text::copy_of(alloc, b"")?,
             behind: Text::copy_of(alloc, b"")?,
+            changed: ChangedSaid::none(alloc)?,
             begun: false,
         })
     }
@@ -82,7 +87,7 @@ impl Excerpt {
         Ok(())
     }
 
-    /// The first member tells its id, and what stands before it. `Err` means out of memory.
+    /// The first member tells its id, and what stands before it, and changes no properties so far. `Err` means out of memory.
     pub(crate) fn begin(
         &mut self,
         alloc: Global,
@@ -95,12 +100,14 @@ impl Excerpt {
           id = if self.old.begun then self.old.id else id_of (tag_of elem.now);
           before = if self.old.begun then self.old.before else before line.now place;
           behind = self.old.behind;
+          changed = if self.old.begun then self.old.changed else nothing_changed;
           begun = true;
         }) }
     {
         if !self.begun {
             self.id = attribute(alloc, elem.tail(), b"id")?;
             self.before = before(alloc, line, place)?;
+            self.changed = ChangedSaid::none(alloc)?;
             self.begun = true;
         }
         Ok(())

@@ -3,9 +3,10 @@
 ghost use Rattle.std.specs.Prelude.{◌≡◌, ◌<◌, ◌∷◌, [], IfOk, IfSome, IsSome, IsTrue, OnOk, false, length, true};
 ghost use Rattle.redl_tree.specs.Model.IdleTexts.{idle_nodes};
 ghost use Rattle.redl_tree.specs.Model.View.{nodes_of, item_of, tag_of, kids_of};
-ghost use Rattle.redl_excerpts.specs.Excerpts.{TellsEach, is_moved, told_all};
+ghost use Rattle.redl_changed.specs.Changed.{changed_of};
+ghost use Rattle.redl_excerpts.specs.Excerpts.{TellsEach, is_moved, told, told_all};
 ghost use Rattle.redl_excerpts.specs.Lines.{along, line_of};
-ghost use Rattle.redl_excerpts.specs.Mentions.{Where, bytes_said, element_mentions, in_paragraph, item_mentions, member_told, mentions, stretch_in, told_by};
+ghost use Rattle.redl_excerpts.specs.Mentions.{Where, bytes_said, changing, element_mentions, in_paragraph, item_mentions, member_told, mentions, stretch_in, told_by};
 ghost use Rattle.redl_excerpts.specs.Said.{element_said, holds_text, item_said, said, start_said};
 ghost use Rattle.redl_excerpts.specs.Inside.Around.{IsAround};
 ghost use Rattle.redl_excerpts.specs.Inside.Flat.{are_flat};
@@ -16,9 +17,10 @@ use crate::flat::{are_flat, count_telling};
 use crate::{
     Line, Place, holds_text, is_paragraph, tell_bytes, tell_nodes, tell_plain, tell_start,
 };
+use redl_changed::changed_of;
 use redl_index::Revision;
 use redl_kinds::RevKind;
-use redl_tree::{Elem, Kind, Node, Plain, Trace, is_quiet};
+use redl_tree::{Elem, Kind, Node, Plain, Prop, Trace, is_quiet};
 use std::alloc::{AllocError, Global};
 
 // For how many bytes a line takes room at first.
@@ -26,9 +28,11 @@ const USUAL_LINE: usize = 400;
 
 /// Where nodes stand, but for their place in the line.
 #[derive(Clone, Copy)]
-pub(crate) struct Here<'a, 'n> {
+pub(crate) struct Here<'a, 'n, 's, 'm> {
     /// Whether they are in an element that holds text.
     pub(crate) in_text: bool,
+    /// The list that they are of.
+    pub(crate) siblings: &'s [Node<'m>],
     /// The kids of the nearest ancestor that is no element of properties.
     pub(crate) owner: &'a [Node<'n>],
     /// Where these begin in the line.
@@ -43,7 +47,7 @@ pub(crate) fn tell_members(
     alloc: Global,
     revisions: &[Revision],
     nodes: &[Node],
-    here: Here<'_, '_>,
+    here: Here<'_, '_, '_, '_>,
     place: Place,
     excerpts: &mut Vec<Excerpt>,
 ) -> Result<Place, AllocError>
@@ -62,7 +66,7 @@ fn tell_member_node(
     alloc: Global,
     revisions: &[Revision],
     node: &Node,
-    here: Here<'_, '_>,
+    here: Here<'_, '_, '_, '_>,
     place: Place,
     excerpts: &mut Vec<Excerpt>,
 ) -> Result<Place, AllocError>
@@ -103,7 +107,7 @@ fn tell_member_elem(
     alloc: Global,
     revisions: &[Revision],
     elem: &Elem,
-    here: Here<'_, '_>,
+    here: Here<'_, '_, '_, '_>,
     place: Place,
     excerpts: &mut Vec<Excerpt>,
 ) -> Result<Place, AllocError>
@@ -123,6 +127,7 @@ fn tell_member_elem(
     if is_quiet(elem) {
         let inside = Here {
             in_text: false,
+            siblings: held,
             owner: here.owner,
             owner_place: here.owner_place,
             whole: here.whole,
@@ -136,6 +141,7 @@ fn tell_member_elem(
     }
     let inside = Here {
         in_text: holds_text(elem),
+        siblings: held,
         owner: held,
         owner_place: begin,
         whole: here.whole,
@@ -182,7 +188,7 @@ fn tell_around(
     alloc: Global,
     revisions: &[Revision],
     elem: &Elem,
-    here: Here<'_, '_>,
+    here: Here<'_, '_, '_, '_>,
     place: Place,
     excerpts: &mut Vec<Excerpt>,
 ) -> Result<Place, AllocError>
@@ -194,6 +200,7 @@ fn tell_around(
     let held = elem.kids();
     let inside = Here {
         in_text: false,
+        siblings: held,
         owner: held,
         owner_place: place,
         whole: here.whole,
@@ -243,6 +250,7 @@ fn tell_paragraph(
     let start = Place::start(line.as_bytes());
     let inside = Here {
         in_text: false,
+        siblings: held,
         owner: held,
         owner_place: start,
         whole: line.as_bytes(),
@@ -267,7 +275,7 @@ fn tell_member(
     alloc: Global,
     revisions: &[Revision],
     elem: &Elem,
-    here: Here<'_, '_>,
+    here: Here<'_, '_, '_, '_>,
     place: Place,
     excerpts: &mut Vec<Excerpt>,
 ) -> Result<Option<Place>, AllocError>
@@ -302,7 +310,7 @@ fn tell_kind(
     alloc: Global,
     moved: bool,
     elem: &Elem,
-    here: Here<'_, '_>,
+    here: Here<'_, '_, '_, '_>,
     place: Place,
     excerpt: &mut Excerpt,
 ) -> Result<Option<Place>, AllocError>
@@ -325,9 +333,31 @@ fn tell_kind(
             excerpt.tell_paragraph_end(alloc, elem, here.whole)?;
             Ok(None)
         }
-        Kind::Row(_) | Kind::Cell(_) | Kind::Change(_) => {
+        Kind::Row(_) | Kind::Cell(_) => {
             excerpt.tell_stretch(alloc, elem, here.whole, here.owner_place, here.owner)?;
             Ok(None)
         }
+        Kind::Change(what) => {
+            tell_change(alloc, what, elem, here, excerpt)?;
+            Ok(None)
+        }
     }
+}
+
+// Tells the excerpt what a change of such properties tells: what it is of, and the properties that it changes.
+fn tell_change(
+    alloc: Global,
+    what: Prop,
+    elem: &Elem,
+    here: Here<'_, '_, '_, '_>,
+    excerpt: &mut Excerpt,
+) -> Result<(), AllocError>
+    ensures { OnOk result (excerpt.new ≡ told excerpt.old (changing (changed_of what (nodes_of here.entry.siblings.now) (kids_of elem.now)) (stretch_in here.entry.whole.now (tag_of elem.now) here.entry.owner_place (nodes_of here.entry.owner.now)))) }
+{
+    let began = excerpt.begun;
+    excerpt.tell_stretch(alloc, elem, here.whole, here.owner_place, here.owner)?;
+    if !began {
+        excerpt.changed = changed_of(alloc, what, here.siblings, elem.kids())?;
+    }
+    Ok(())
 }

@@ -80,6 +80,7 @@ fn tell_story(
 {
     let here = Here {
         in_text: false,
+        siblings: &[],
         owner: &[],
         owner_place: Place::end(),
         whole: b"",

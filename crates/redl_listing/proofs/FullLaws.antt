@@ -1,5 +1,5 @@
 -- The tokens of a row's object with its detail.
-use Rattle.std.proofs.Common.{◌≡◌, ◌∙◌, ℕ, List, [], ◌∷◌, ◌++◌, codes, decimal, Option, Some, None, ℤ, ap, refl}
+use Rattle.std.proofs.Common.{◌≡◌, ◌∙◌, ℕ, List, [], ◌∷◌, ◌++◌, codes, decimal, Option, Some, None, ℤ, ap, refl, append_assoc}
 use Rattle.std.specs.List.{flat_map}
 use Rattle.json.specs.Token.{Token, begin_object, end_object, begin_array, end_array, key, string, number}
 use Rattle.json.specs.Print.{print}
@@ -11,33 +11,44 @@ use Rattle.serde_json.specs.Written.{items_outline, outline}
 use Rattle.redl_excerpts.specs.declared.last_word.LastWord.{LastWord}
 use Rattle.redl_kinds.specs.KindNames.{kind_name}
 use Rattle.redl_journal.specs.Journals.{word_text}
+use Rattle.redl_listing.specs.Changed.{change_tokens, changed_tokens, json_changed, json_more, more_token}
+use Rattle.redl_listing.proofs.ChangedLaws.{changed_are}
 use Rattle.redl_listing.specs.declared.row.Row.{Row}
-use Rattle.redl_listing.specs.Full.{full_row, id_token, json_id, json_says, said_tokens}
+use Rattle.redl_listing.specs.Full.{behind_tokens, front_tokens, full_row, id_token, json_id, json_says, said_tokens}
 use Rattle.redl_formats.specs.Fields.{date_token, json_date, verdict_name}
 
 -- the tokens behind the last words
 abbrev end_tokens : Row → List Token
 end_tokens row = key (codes "verdict") ∷ string (verdict_name row.verdict) ∷ key (codes "words") ∷ string row.detail.words ∷ end_object ∷ []
 
--- those of the object, with this date and this id, and what follows
-abbrev tokens_with : Row → Option ℤ → Option (List ℕ) → List Token → List Token
-tokens_with row seconds id rest =
-    begin_object ∷ key (codes "after") ∷ string row.detail.after ∷ key (codes "author") ∷ string row.author
-    ∷ key (codes "before") ∷ string row.detail.before ∷ key (codes "date") ∷ date_token seconds ∷ key (codes "id") ∷ id_token id
+-- those between the changed properties and the last words, with this many more, this date and this id, and what follows
+abbrev behind_with : Row → Option ℕ → Option ℤ → Option (List ℕ) → List Token → List Token
+behind_with row more seconds id rest =
+    key (codes "changed_more") ∷ more_token more ∷ key (codes "date") ∷ date_token seconds ∷ key (codes "id") ∷ id_token id
     ∷ key (codes "kind") ∷ string (kind_name row.kind) ∷ key (codes "members") ∷ number (decimal row.members)
     ∷ key (codes "number") ∷ number (decimal row.number) ∷ key (codes "part") ∷ string row.part
     ∷ key (codes "says") ∷ begin_array ∷ rest
 
+-- those of the object, with these tokens of changed properties and what follows
+abbrev tokens_with : Row → List Token → List Token
+tokens_with row rest =
+    begin_object ∷ key (codes "after") ∷ string row.detail.after ∷ key (codes "author") ∷ string row.author
+    ∷ key (codes "before") ∷ string row.detail.before ∷ key (codes "changed") ∷ begin_array ∷ rest
+
 -- the tokens of a row
 abbrev pub full_tokens : Row → List Token
-full_tokens row = tokens_with row row.seconds row.detail.id (flat_map said_tokens row.detail.says ++ (end_array ∷ end_tokens row))
+full_tokens row =
+    tokens_with row (flat_map change_tokens row.detail.changed.changes
+    ++ (end_array ∷ behind_with row row.detail.changed.more row.seconds row.detail.id (flat_map said_tokens row.detail.says ++ (end_array ∷ end_tokens row))))
 
--- the object of a row with this date and this id
-abbrev object_with : Row → Option ℤ → Option (List ℕ) → Data
-object_with row seconds id =
+-- the object of a row with this many more, this date and this id
+abbrev object_with : Row → Option ℕ → Option ℤ → Option (List ℕ) → Data
+object_with row more seconds id =
     object (member (codes "after") (value.string row.detail.after)
     (member (codes "author") (value.string row.author)
     (member (codes "before") (value.string row.detail.before)
+    (member (codes "changed") (value.array (json_changed row.detail.changed.changes))
+    (member (codes "changed_more") (json_more more)
     (member (codes "date") (json_date seconds)
     (member (codes "id") (json_id id)
     (member (codes "kind") (value.string (kind_name row.kind))
@@ -46,7 +57,7 @@ object_with row seconds id =
     (member (codes "part") (value.string row.part)
     (member (codes "says") (value.array (json_says row.detail.says))
     (member (codes "verdict") (value.string (verdict_name row.verdict))
-    (member (codes "words") (value.string row.detail.words) no_members))))))))))))
+    (member (codes "words") (value.string row.detail.words) no_members))))))))))))))
 
 -- the tokens of the last words, and what follows
 says_tokens : (says : List LastWord) (rest : List Token) → flat_map said_tokens says ++ (end_array ∷ rest) ≡ items_tokens (items_outline (json_says says)) ++ rest
@@ -54,28 +65,43 @@ says_tokens [] rest = refl
 says_tokens (said ∷ more) rest =
     ap (λ (ts : List Token). begin_object ∷ key (codes "reviewer") ∷ string said.reviewer ∷ key (codes "word") ∷ string (word_text said.word) ∷ end_object ∷ ts) (says_tokens more rest)
 
-tokens_are : (row : Row) (seconds : Option ℤ) (id : Option (List ℕ))
-    → tokens_with row seconds id (items_tokens (items_outline (json_says row.detail.says)) ++ end_tokens row) ≡ json_tokens (outline (object_with row seconds id))
-tokens_are row None None = refl
-tokens_are row None (Some id) = refl
-tokens_are row (Some seconds) None = refl
-tokens_are row (Some seconds) (Some id) = refl
+tokens_are : (row : Row) (more : Option ℕ) (seconds : Option ℤ) (id : Option (List ℕ))
+    → tokens_with row (items_tokens (items_outline (json_changed row.detail.changed.changes)) ++ behind_with row more seconds id (items_tokens (items_outline (json_says row.detail.says)) ++ end_tokens row))
+    ≡ json_tokens (outline (object_with row more seconds id))
+tokens_are row None None None = refl
+tokens_are row None None (Some id) = refl
+tokens_are row None (Some seconds) None = refl
+tokens_are row None (Some seconds) (Some id) = refl
+tokens_are row (Some more) None None = refl
+tokens_are row (Some more) None (Some id) = refl
+tokens_are row (Some more) (Some seconds) None = refl
+tokens_are row (Some more) (Some seconds) (Some id) = refl
 
 -- printed, they are the row's object
 pub full-printed : (row : Row) → print (full_tokens row) ≡ full_row row
 unfolding full_row
 full-printed row =
-    ap print (ap (tokens_with row row.seconds row.detail.id) (says_tokens row.detail.says (end_tokens row)) ∙ tokens_are row row.seconds row.detail.id)
-    ∙ print-outline (object_with row row.seconds row.detail.id)
+    let behind = behind_with row row.detail.changed.more row.seconds row.detail.id in
+    let said = flat_map said_tokens row.detail.says ++ (end_array ∷ end_tokens row) in
+    ap print (ap (tokens_with row) (changed_are row.detail.changed.changes (behind said)
+    ∙ ap (λ (ts : List Token). items_tokens (items_outline (json_changed row.detail.changed.changes)) ++ behind ts) (says_tokens row.detail.says (end_tokens row)))
+    ∙ tokens_are row row.detail.changed.more row.seconds row.detail.id)
+    ∙ print-outline (object_with row row.detail.changed.more row.seconds row.detail.id)
 
 -- ---- tokens one after another
 
--- those of nine members
-pub members_more : (tokens : List Token) (a b c d e f g h i j k l m n o p q r : Token)
-    → ((((((((tokens ++ a ∷ b ∷ []) ++ c ∷ d ∷ []) ++ e ∷ f ∷ []) ++ g ∷ h ∷ []) ++ i ∷ j ∷ []) ++ k ∷ l ∷ []) ++ m ∷ n ∷ []) ++ o ∷ p ∷ []) ++ q ∷ r ∷ []
-    ≡ tokens ++ (a ∷ b ∷ c ∷ d ∷ e ∷ f ∷ g ∷ h ∷ i ∷ j ∷ k ∷ l ∷ m ∷ n ∷ o ∷ p ∷ q ∷ r ∷ [])
-members_more [] a b c d e f g h i j k l m n o p q r = refl
-members_more (token ∷ tokens) a b c d e f g h i j k l m n o p q r = ap (λ (ts : List Token). token ∷ ts) (members_more tokens a b c d e f g h i j k l m n o p q r)
+-- those of seven members
+pub members_more : (tokens : List Token) (a b c d e f g h i j k l m n : Token)
+    → ((((((tokens ++ a ∷ b ∷ []) ++ c ∷ d ∷ []) ++ e ∷ f ∷ []) ++ g ∷ h ∷ []) ++ i ∷ j ∷ []) ++ k ∷ l ∷ []) ++ m ∷ n ∷ []
+    ≡ tokens ++ (a ∷ b ∷ c ∷ d ∷ e ∷ f ∷ g ∷ h ∷ i ∷ j ∷ k ∷ l ∷ m ∷ n ∷ [])
+members_more [] a b c d e f g h i j k l m n = refl
+members_more (token ∷ tokens) a b c d e f g h i j k l m n = ap (λ (ts : List Token). token ∷ ts) (members_more tokens a b c d e f g h i j k l m n)
+
+-- those of three members, and two lists
+pub front_more : (tokens changed behind : List Token) (a b c d e f : Token)
+    → ((((tokens ++ a ∷ b ∷ []) ++ c ∷ d ∷ []) ++ e ∷ f ∷ []) ++ changed) ++ behind ≡ tokens ++ (a ∷ b ∷ c ∷ d ∷ e ∷ f ∷ (changed ++ behind))
+front_more [] changed behind a b c d e f = refl
+front_more (token ∷ tokens) changed behind a b c d e f = ap (λ (ts : List Token). token ∷ ts) (front_more tokens changed behind a b c d e f)
 
 -- those of a last word
 pub said_more : (tokens : List Token) (a b c d e f : Token) → (((tokens ++ a ∷ []) ++ b ∷ c ∷ []) ++ d ∷ e ∷ []) ++ f ∷ [] ≡ tokens ++ (a ∷ b ∷ c ∷ d ∷ e ∷ f ∷ [])
@@ -96,3 +122,12 @@ pub whole_more : (front says : List Token) (a b c d e f g h : Token)
     → (((front ++ (a ∷ b ∷ (says ++ c ∷ []))) ++ d ∷ e ∷ []) ++ f ∷ g ∷ []) ++ h ∷ [] ≡ front ++ (a ∷ b ∷ (says ++ (c ∷ d ∷ e ∷ f ∷ g ∷ h ∷ [])))
 whole_more [] says a b c d e f g h = ap (λ (ts : List Token). a ∷ b ∷ ts) (ended says c d e f g h)
 whole_more (token ∷ front) says a b c d e f g h = ap (λ (ts : List Token). token ∷ ts) (whole_more front says a b c d e f g h)
+
+-- all of them, where the first ones are those of a row
+pub row_more : (row : Row) → (begin_object ∷ front_tokens row) ++ (key (codes "says") ∷ begin_array ∷ (flat_map said_tokens row.detail.says ++ (end_array ∷ end_tokens row))) ≡ full_tokens row
+row_more row =
+    let rest = key (codes "says") ∷ begin_array ∷ (flat_map said_tokens row.detail.says ++ (end_array ∷ end_tokens row)) in
+    let front = λ (ts : List Token). begin_object ∷ key (codes "after") ∷ string row.detail.after ∷ key (codes "author") ∷ string row.author
+    ∷ key (codes "before") ∷ string row.detail.before ∷ ts in
+    ap front (append_assoc (changed_tokens row.detail.changed.changes) (behind_tokens row) rest
+    ∙ ap (λ (ts : List Token). key (codes "changed") ∷ begin_array ∷ ts) (append_assoc (flat_map change_tokens row.detail.changed.changes) (end_array ∷ []) (behind_tokens row ++ rest)))

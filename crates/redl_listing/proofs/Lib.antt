@@ -1,3 +1,4 @@
+pub mod ChangedLaws
 pub mod FullLaws
 pub mod JsonLaws
 pub mod RowLaws

@@ -1,6 +1,7 @@
 -- Rows by hand, as lines of the format `words`.
-use Rattle.std.proofs.Common.{◌≡◌, [], ◌∷◌, ◌++◌, None, codes, refl}
+use Rattle.std.proofs.Common.{◌≡◌, ℕ, List, [], ◌∷◌, ◌++◌, None, Some, codes, refl}
 use Rattle.std.specs.Fmt.{digits}
+use Rattle.redl_changed.specs.Changed.{nothing_changed}
 use Rattle.redl_tree.specs.declared.kinds.Trace.TheVariants.{Del}
 use Rattle.redl_tree.specs.declared.kinds.Prop.TheVariants as prop
 use Rattle.redl_kinds.specs.declared.rev_kind.RevKind.TheVariants.{Content, Change}
@@ -27,6 +28,7 @@ deletion = record {
     before = codes "The price is due within ";
     after = codes "fourteen days of delivery. The Buyer pay";
     id = None;
+    changed = nothing_changed;
     says = record { reviewer = codes "Ann Gray"; word = word.Accept } ∷ record { reviewer = codes "Bob Hay"; word = word.Reject } ∷ [];
   };
 }
@@ -35,6 +37,10 @@ row_disputed : words_row deletion
     ≡ codes "   32 del          disputed Bob Hay       " ++ dots ++ codes "due within [-thirty-]fourteen d" ++ dots ++ codes "  Ann Gray: accept  Bob Hay: reject" ++ newline
 unfolding deletion words_row words_columns numbered_columns quoted hidden_length digits heard_byte paused begun
 row_disputed = refl
+
+-- an arrow (U+2192) and a space
+arrow : List ℕ
+arrow = 226 ∷ 134 ∷ 146 ∷ 32 ∷ []
 
 -- an accepted change of a paragraph by an author with a long name, and words that are cut
 change : Row
@@ -46,9 +52,9 @@ change = record {
   seconds = None;
   part = codes "/word/document.xml";
   members = 1;
-  detail = record { words = codes "The Seller delivers the goods to the store"; before = []; after = []; id = None; says = [] };
+  detail = record { words = codes "The Seller delivers the goods to the store"; before = []; after = []; id = None; changed = record { changes = []; more = Some 0; line = codes "alignment: not set " ++ (arrow ++ codes "justified") }; says = [] };
 }
 
-row_change : words_row change ≡ codes "    7 para-props   accept   Dana Fox & C" ++ dots ++ codes " {=The Seller delivers the goods " ++ dots ++ codes "=}" ++ newline
-unfolding change words_row words_columns numbered_columns quoted hidden_length digits heard_byte paused begun
+row_change : words_row change ≡ codes "    7 para-props   accept   Dana Fox & C" ++ dots ++ codes " {=alignment: not set " ++ arrow ++ codes "justified=}The Seller delivers the goods " ++ dots ++ newline
+unfolding change arrow words_row words_columns numbered_columns quoted hidden_length digits heard_byte paused begun
 row_change = refl

@@ -1,6 +1,6 @@
 -- The text of the format `full`: an array with an object for each row (RFC 8259), which has the members of `json` and the row's
 -- detail (our own rule).
-use Rattle.std.specs.Prelude.{ℕ, Bool, List, [], ◌∷◌, codes, decimal, Option, Some, None}
+use Rattle.std.specs.Prelude.{ℕ, Bool, List, [], ◌∷◌, ◌++◌, codes, decimal, Option, Some, None}
 use Rattle.json.specs.Token.{Token, begin_object, end_object, key, null as null_token, number as number_token, string as string_token}
 use Rattle.serde_json.specs.Data.{Data, Items, null, string, number, unsigned, array, object, member, no_members, item, no_items}
 use Rattle.serde_json.specs.Written.{compact_text}
@@ -8,6 +8,7 @@ use Rattle.redl_excerpts.specs.declared.last_word.LastWord.{LastWord}
 use Rattle.redl_kinds.specs.KindNames.{kind_name}
 use Rattle.redl_journal.specs.Journals.{word_text}
 use Rattle.redl_listing.specs.declared.row.Row.{Row}
+use Rattle.redl_listing.specs.Changed.{changed_tokens, json_changed, json_more, more_token}
 use Rattle.redl_formats.specs.Formats.{array_of}
 use Rattle.redl_formats.specs.Fields.{date_token, json_date, verdict_name}
 
@@ -41,6 +42,8 @@ full_object row =
     object (member (codes "after") (string row.detail.after)
     (member (codes "author") (string row.author)
     (member (codes "before") (string row.detail.before)
+    (member (codes "changed") (array (json_changed row.detail.changed.changes))
+    (member (codes "changed_more") (json_more row.detail.changed.more)
     (member (codes "date") (json_date row.seconds)
     (member (codes "id") (json_id row.detail.id)
     (member (codes "kind") (string (kind_name row.kind))
@@ -49,16 +52,20 @@ full_object row =
     (member (codes "part") (string row.part)
     (member (codes "says") (array (json_says row.detail.says))
     (member (codes "verdict") (string (verdict_name row.verdict))
-    (member (codes "words") (string row.detail.words) no_members))))))))))))
+    (member (codes "words") (string row.detail.words) no_members))))))))))))))
 
--- the members before the last words, as they are written
+-- the members between the changed properties and the last words, as they are written
+abbrev pub behind_tokens : Row → List Token
+behind_tokens row =
+    key (codes "changed_more") ∷ more_token row.detail.changed.more ∷ key (codes "date") ∷ date_token row.seconds ∷ key (codes "id") ∷ id_token row.detail.id ∷ key (codes "kind") ∷ string_token (kind_name row.kind)
+    ∷ key (codes "members") ∷ number_token (decimal row.members) ∷ key (codes "number") ∷ number_token (decimal row.number)
+    ∷ key (codes "part") ∷ string_token row.part ∷ []
+
+-- those before the last words
 abbrev pub front_tokens : Row → List Token
 front_tokens row =
     key (codes "after") ∷ string_token row.detail.after ∷ key (codes "author") ∷ string_token row.author
-    ∷ key (codes "before") ∷ string_token row.detail.before ∷ key (codes "date") ∷ date_token row.seconds
-    ∷ key (codes "id") ∷ id_token row.detail.id ∷ key (codes "kind") ∷ string_token (kind_name row.kind)
-    ∷ key (codes "members") ∷ number_token (decimal row.members) ∷ key (codes "number") ∷ number_token (decimal row.number)
-    ∷ key (codes "part") ∷ string_token row.part ∷ []
+    ∷ key (codes "before") ∷ string_token row.detail.before ∷ (changed_tokens row.detail.changed.changes ++ behind_tokens row)
 
 -- its text without white space
 unfoldable pub full_row : Row → List ℕ

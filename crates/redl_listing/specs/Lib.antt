@@ -1,4 +1,5 @@
 pub mod Rows
 pub mod Texts
 pub mod Words
+pub mod Changed
 pub mod Full

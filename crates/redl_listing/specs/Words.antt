@@ -1,10 +1,11 @@
 -- The text of the format `words`: a line for each row, with its words in their paragraph between the signs of what became of them
--- (our own rule). A terminal of 100 columns shows it: number 5, kind 12, verdict 8 and author 13 places, a space behind each; then
+-- (our own rule). A terminal of 100 columns shows most of it: number 5, kind 12, verdict 8 and author 13 places, a space behind each; then
 -- 12 places before, 4 for the signs, 31 for the words, 11 behind. A disputed row also says who said what.
 use Rattle.std.specs.Prelude.{ℕ, ◌-◌, nat_le, false, List, [], ◌∷◌, ◌++◌, replicate, decimal, codes, if◌then◌else◌}
 use Rattle.std.specs.List.{flat_map}
 use Rattle.redl_excerpts.specs.Lines.{characters_in, without_characters}
 use Rattle.redl_excerpts.specs.Phrases.{heard, kept_text, nothing_heard}
+use Rattle.redl_excerpts.specs.declared.detail.Detail.{Detail}
 use Rattle.redl_excerpts.specs.declared.last_word.LastWord.{LastWord}
 use Rattle.redl_kinds.specs.KindNames.{kind_name}
 use Rattle.redl_kinds.specs.declared.rev_kind.RevKind.{RevKind}
@@ -73,10 +74,19 @@ unfoldable pub words_columns : Row → List ℕ
 words_columns row =
     numbered_columns row ++ (left_in 8 (verdict_name row.verdict) ++ (space ++ (in_places 13 (shortened 12 (masked Field row.author)) ++ space)))
 
+-- between the signs stand the words; of a change of properties what it changes, and the words behind the signs
+abbrev pub inside : RevKind → Detail → List ℕ
+inside (Change prop) detail = masked Field detail.changed.line
+inside _ detail = masked Field (shortened 30 detail.words)
+
+abbrev pub outside : RevKind → Detail → List ℕ
+outside (Change prop) detail = masked Field (shortened 30 detail.words)
+outside _ detail = []
+
 -- the words in their paragraph
 unfoldable pub quoted : Row → List ℕ
 quoted row =
-    masked Field (near_end row.detail.before) ++ (opening row.kind ++ (masked Field (shortened 30 row.detail.words) ++ (closing row.kind ++ masked Field (shortened 10 row.detail.after))))
+    masked Field (near_end row.detail.before) ++ (opening row.kind ++ (inside row.kind row.detail ++ (closing row.kind ++ (outside row.kind row.detail ++ masked Field (shortened 10 row.detail.after)))))
 
 -- who said what, with two spaces before each
 abbrev pub said_text : LastWord → List ℕ

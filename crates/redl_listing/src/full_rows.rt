@@ -5,8 +5,9 @@ ghost use Rattle.std.specs.List.{flat_map};
 ghost use Rattle.std.specs.Str.{IsUtf8};
 ghost use Rattle.json.specs.Token.{begin_array as begin_array_token, end_array as end_array_token, key as key_token};
 ghost use Rattle.redl_listing.specs.Rows.{IsRow};
-ghost use Rattle.redl_listing.specs.Full.{front_tokens, full_row, id_token, said_tokens};
+ghost use Rattle.redl_listing.specs.Full.{behind_tokens, front_tokens, full_row, id_token, said_tokens};
 
+use crate::changed_rows::{put_changed, put_more};
 use crate::row::Row;
 use json::Writer;
 use redl_excerpts::LastWord;
@@ -59,6 +60,18 @@ fn put_front(object: &mut Writer, row: &Row) -> Result<(), AllocError>
     put_text(object, "after", row.detail.after.as_bytes())?;
     put_text(object, "author", row.author.as_bytes())?;
     put_text(object, "before", row.detail.before.as_bytes())?;
+    put_changed(object, row.detail.changed.changes.list())?;
+    put_behind(object, row)?;
+    Ok(())
+}
+
+// Writes the members between the changed properties and the last words. `Err` means out of memory.
+fn put_behind(object: &mut Writer, row: &Row) -> Result<(), AllocError>
+    requires { IsRow row.now }
+    ensures written { OnOk result (object.new.tokens ≡ object.old.tokens ++ behind_tokens row.now) }
+    ensures before { OnOk result (object.new.before ≡ object.old.before) }
+{
+    put_more(object, row.detail.changed.more)?;
     put_date(object, row.seconds)?;
     put_id(object, &row.detail.id)?;
     put_text(object, "kind", row.kind.name().as_bytes())?;

@@ -8,6 +8,7 @@
 //! Its tests are whole calls, in the rows of `redl_rows`.
 #![tactic(auto)]
 
+mod changed_rows;
 mod format;
 mod full_rows;
 mod json_rows;

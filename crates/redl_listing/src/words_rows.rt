@@ -5,10 +5,10 @@ ghost use Rattle.std.specs.List.{flat_map};
 ghost use Rattle.redl_listing.specs.Rows.{IsRow};
 ghost use Rattle.redl_terminal.specs.Masks.{masked};
 ghost use Rattle.redl_terminal.specs.declared.extent.Extent.TheVariants.{Field};
-ghost use Rattle.redl_listing.specs.Words.{closing, closing_of, in_places, near_end, numbered_columns, opening, opening_of, quoted, said_text, says_text, shortened, words_columns, words_row};
+ghost use Rattle.redl_listing.specs.Words.{closing, closing_of, in_places, inside, near_end, numbered_columns, opening, opening_of, outside, quoted, said_text, says_text, shortened, words_columns, words_row};
 
 use crate::row::Row;
-use redl_excerpts::{LastWord, Says, characters_in, shortened, without_characters};
+use redl_excerpts::{Detail, LastWord, Says, characters_in, shortened, without_characters};
 use redl_formats::{Piece, push_left, push_number, push_spaces, verdict_name, word_name};
 use redl_join::Verdict;
 use redl_kinds::RevKind;
@@ -108,10 +108,31 @@ fn push_quoted(line: &mut Vec<u8>, row: &Row) -> Result<(), AllocError>
 {
     push_near_end(line, row.detail.before.as_bytes())?;
     line.extend_from_slice(opening(row.kind).as_bytes())?;
-    push_shortened(line, row.detail.words.as_bytes(), 30)?;
+    push_inside(line, row.kind, &row.detail)?;
     line.extend_from_slice(closing(row.kind).as_bytes())?;
+    push_outside(line, row.kind, &row.detail)?;
     push_shortened(line, row.detail.after.as_bytes(), 10)?;
     Ok(())
+}
+
+// Adds what stands between the signs: the words, and of a change of properties what it changes. `Err` means out of memory.
+fn push_inside(line: &mut Vec<u8>, kind: RevKind, detail: &Detail) -> Result<(), AllocError>
+    ensures { OnOk result (line.new.items ≡ line.old.items ++ inside kind detail.now) }
+{
+    match kind {
+        RevKind::Change(_) => push_masked(line, Extent::Field, detail.changed.line.as_bytes()),
+        _ => push_shortened(line, detail.words.as_bytes(), 30),
+    }
+}
+
+// Adds the words of a change of properties, which stand behind the signs. `Err` means out of memory.
+fn push_outside(line: &mut Vec<u8>, kind: RevKind, detail: &Detail) -> Result<(), AllocError>
+    ensures { OnOk result (line.new.items ≡ line.old.items ++ outside kind detail.now) }
+{
+    match kind {
+        RevKind::Change(_) => push_shortened(line, detail.words.as_bytes(), 30),
+        _ => Ok(()),
+    }
 }
 
 // Adds the last 11 characters, with dots for those before. `Err` means out of memory.

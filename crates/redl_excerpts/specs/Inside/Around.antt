@@ -1,5 +1,6 @@
 -- An excerpt while members inside one of its own tell.
 use Rattle.std.specs.Prelude.{◌≡◌, ◌<◌, ◌≤◌, ◌∷◌, ℕ, true, false, List, [], None, if◌then◌else◌}
+use Rattle.redl_changed.specs.Changed.{nothing_changed}
 use Rattle.redl_index.specs.declared.revision.Revision.{Revision}
 use Rattle.redl_tree.specs.Model.Nodes.{Nodes, Tag}
 use Rattle.redl_tree.specs.Roles.Names.{is}
@@ -21,6 +22,7 @@ opened excerpt words = record {
   id = None;
   before = [];
   behind = excerpt.behind;
+  changed = nothing_changed;
   begun = false;
 }
 
@@ -29,6 +31,7 @@ abbrev pub first_of : Excerpt → Mention → Away
 first_of excerpt mention = record {
   id = if excerpt.begun then excerpt.id else mention.id;
   before = if excerpt.begun then excerpt.before else mention.before;
+  changed = if excerpt.begun then excerpt.changed else mention.changed;
 }
 
 -- The member ended, with this behind it, and what was put away is back. A member inside it that told stands later, so what stands
@@ -39,6 +42,7 @@ closed excerpt away behind = record {
   id = away.id;
   before = away.before;
   behind = if excerpt.begun then excerpt.behind else behind;
+  changed = away.changed;
   begun = true;
 }
 

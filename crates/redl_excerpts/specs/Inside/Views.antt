@@ -7,6 +7,7 @@ use Rattle.redl_excerpts.specs.declared.members.Here.{Here}
 abbrev pub where_of : Here → Place → Where
 where_of here place = record {
   in_text = here.in_text;
+  siblings = nodes_of here.siblings.now;
   owner = nodes_of here.owner.now;
   owner_place = here.owner_place;
   place = place;

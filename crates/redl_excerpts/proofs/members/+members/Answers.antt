@@ -74,7 +74,7 @@ pub tell_around-index_mut-requires-2 : goal.tell_around-index_mut-requires-2
 tell_around-index_mut-requires-2 t c =
     let at : ℕ = c.rev.result - 1 in
     let below = nodes_of c.kids-held.result.now in
-    let there : Where = record { in_text = false; owner = below; owner_place = c.args.place; place = c.args.place; whole = c.args.here.whole.now } in
+    let there : Where = record { in_text = false; siblings = below; owner = below; owner_place = c.args.place; place = c.args.place; whole = c.args.here.whole.now } in
     let inner : ℕ → List Mention = λ v. mentions (is_moved c.args.revisions.now v) v there below in
     let bound : at < length c.args.excerpts.now.items = omega (arith, c.rev.ensures, c.requires.around.numbered, c.requires.around.within) in
     let kept : at < length c.tell_members.new.excerpts.items = tells-keep c.args.excerpts.now.items c.tell_members.new.excerpts.items at c.begin_around.new.self inner bound c.in_ok-end.ensures.told in
@@ -92,7 +92,7 @@ tell_around-returns-clause-told t c =
     let moved = λ (v : ℕ). is_moved c.args.revisions.now v in
     let at : ℕ = c.rev.result - 1 in
     let own : Mention = stretch_in here.whole tag here.place kids in
-    let there : Where = record { in_text = false; owner = below; owner_place = here.place; place = here.place; whole = here.whole } in
+    let there : Where = record { in_text = false; siblings = below; owner = below; owner_place = here.place; place = here.place; whole = here.whole } in
     let first : ℕ → List Mention = λ v. member_told (moved v) v here tag kids in
     let inner : ℕ → List Mention = λ v. mentions (moved v) v there below in
     let bound : at < length old = omega (arith, c.rev.ensures, around.numbered, around.within) in

@@ -5,7 +5,7 @@ use Rattle.json.specs.Print.{print}
 use Rattle.json.specs.Token.{begin_object, end_object, begin_array, end_array, key, string}
 use Rattle.redl_listing.specs.Full.{front_tokens, said_tokens}
 use Rattle.redl_formats.specs.Fields.{verdict_name}
-use Rattle.redl_listing.proofs.FullLaws.{full_tokens, full-printed, whole_more}
+use Rattle.redl_listing.proofs.FullLaws.{full_tokens, full-printed, row_more, whole_more}
 use Rattle.redl_listing.proofs.full_rows.full_row.Goals as goal
 
 pub returns : goal.returns
@@ -27,7 +27,8 @@ returns c =
       c.verdict_name.ensures,
       c.as_bytes-2.ensures,
     )
-    (whole_more (begin_object ∷ front_tokens row) (flat_map said_tokens row.detail.says) (key (codes "says")) begin_array end_array (key (codes "verdict")) (string (verdict_name row.verdict)) (key (codes "words")) (string row.detail.words) end_object) in
+    (whole_more (begin_object ∷ front_tokens row) (flat_map said_tokens row.detail.says) (key (codes "says")) begin_array end_array (key (codes "verdict")) (string (verdict_name row.verdict)) (key (codes "words")) (string row.detail.words) end_object
+    ∙ row_more row) in
     c.into_inner.ensures.items
     ∙ ap (λ (front : List ℕ). front ++ print c.end_object.new.self.tokens) before
     ∙ ap (λ ts. c.args.piece.items ++ print ts) tokens
