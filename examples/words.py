@@ -8,6 +8,7 @@ import json
 import re
 import sys
 
+import formats
 import reading
 import texts
 
@@ -115,6 +116,13 @@ def excerpt(package, number):
     return shortened(words, 200), before, told[-1][2][:40] if told else ""
 
 
+def changed(package, number):
+    """The properties that a revision changes; None where its lists are too large to be compared."""
+    if package.revisions[number - 1].kind not in reading.CHANGES.values():
+        return []
+    return formats.compared(members_of(package, number)[0])
+
+
 def near_end(text):
     return text if len(text) <= 11 else "\u2026" + text[-11:]
 
@@ -142,7 +150,10 @@ def listed(package, entries, shown=None):
         verdict = reading.verdict(number, entries)
         begin, end = signs_of(revision.kind)
         masked = reading.masked
-        quoted = masked(near_end(before)) + begin + masked(shortened(words, 30)) + end + masked(shortened(after, 10))
+        inside = masked(shortened(words, 30)) + end
+        if revision.kind in reading.CHANGES.values():
+            inside = masked(formats.line(changed(package, number))) + end + masked(shortened(words, 30))
+        quoted = masked(near_end(before)) + begin + inside + masked(shortened(after, 10))
         line = "%5d %-12s %-8s %-13s %s" % (number, revision.kind, verdict, shortened(masked(revision.author), 12), quoted)
         said = "".join("  %s: %s" % (masked(entry.reviewer), entry.word) for entry in says_of(number, entries))
         out.append(line + (said if verdict == "disputed" else "") + "\n")
@@ -156,9 +167,13 @@ def full(package, entries):
     for row in rows:
         row["words"], row["before"], row["after"] = excerpt(package, row["number"])
         members = members_of(package, row["number"])
+        found = changed(package, row["number"])
+        row["changed"] = (found or [])[: formats.MOST]
+        row["changed_more"] = None if found is None else max(0, len(found) - formats.MOST)
         row["id"] = members[0].attribute("id") if members else None
         row["says"] = [{"reviewer": entry.reviewer, "word": entry.word} for entry in says_of(row["number"], entries)]
-    return json.dumps(rows, ensure_ascii=False, separators=(",", ":"), sort_keys=True) + "\n"
+    rows = [dict(sorted(row.items())) for row in rows]
+    return json.dumps(rows, ensure_ascii=False, separators=(",", ":")) + "\n"
 
 
 def entries_of(journal):
