@@ -12,22 +12,32 @@ use Rattle.redl_join.specs.LastWords.{last_words}
 use Rattle.redl_join.specs.Verdicts.{verdict_at}
 use Rattle.redl_join.specs.declared.verdict.Verdict.{Verdict}
 use Rattle.redl_formats.specs.Dates.{date_text}
-use Rattle.redl_page.specs.Changes.{opens_item, has_item, change, change_head, change_state, changes, rank_words, saying, saying_end, saying_start, verdict_before, word_after, word_before, locked_before}
+use Rattle.redl_page.specs.Changes.{opens_item, has_item, change, change_head, change_state, changes, properties, rank_words, saying, saying_end, saying_start, verdict_before, word_after, word_before, locked_before}
 use Rattle.redl_html.specs.Escaping.{escaped}
-use Rattle.redl_html.specs.Pieces.{own, pieces_text}
+use Rattle.redl_html.specs.Pieces.{Piece, own, pieces_text}
 use Rattle.redl_html.proofs.NumberLaws.{has-left, has-right}
 use Rattle.redl_html.proofs.PieceLaws.{pieces_text-append}
 
 -- ---- what is written
 
-pub change-text : (revision : Revision) (verdict : Verdict) (locked : Bool) (words : List Entry) → pieces_text (change revision verdict locked words)
-    ≡ pieces_text (change_head revision) ++ (pieces_text (change_state verdict locked) ++ (pieces_text (flat_map saying words) ++ codes "</li>\n"))
-change-text revision verdict locked words =
-    pieces_text-append (change_head revision) (change_state verdict locked ++ (flat_map saying words ++ (own "</li>\n" ∷ [])))
+pub change-text : (revision : Revision) (verdict : Verdict) (locked : Bool) (said : List ℕ) (words : List Entry) → pieces_text (change revision verdict locked said words)
+    ≡ pieces_text (change_head revision) ++ (pieces_text (change_state verdict locked) ++ (pieces_text (properties said) ++ (pieces_text (flat_map saying words) ++ codes "</li>\n")))
+change-text revision verdict locked said words =
+    let sayings : List Piece = flat_map saying words ++ (own "</li>\n" ∷ []) in
+    pieces_text-append (change_head revision) (change_state verdict locked ++ (properties said ++ sayings))
     ∙ ap (λ l. pieces_text (change_head revision) ++ l) (
-    pieces_text-append (change_state verdict locked) (flat_map saying words ++ (own "</li>\n" ∷ []))
-    ∙ ap (λ l. pieces_text (change_state verdict locked) ++ l) (pieces_text-append (flat_map saying words) (own "</li>\n" ∷ []))
-    )
+    pieces_text-append (change_state verdict locked) (properties said ++ sayings)
+    ∙ ap (λ l. pieces_text (change_state verdict locked) ++ l) (
+    pieces_text-append (properties said) sayings
+    ∙ ap (λ l. pieces_text (properties said) ++ l) (pieces_text-append (flat_map saying words) (own "</li>\n" ∷ []))
+    ))
+
+pub properties-text : (said : List ℕ) → (length said == 0) ≡ false → pieces_text (properties said)
+    ≡ codes "<p class=\"changed\"><bdi>" ++ (escaped said ++ codes "</bdi></p>")
+properties-text said e = rw e (ap (λ l. codes "<p class=\"changed\"><bdi>" ++ (escaped said ++ l)) (append-nil (codes "</bdi></p>")))
+
+pub properties-nothing : (said : List ℕ) → (length said == 0) ≡ true → pieces_text (properties said) ≡ []
+properties-nothing said e = rw e refl
 
 head_parts : (a n b k c m d t : List ℕ) → a ++ (n ++ (b ++ (k ++ (c ++ (m ++ (d ++ (t ++ []))))))) ≡ ((a ++ n) ++ (b ++ k)) ++ ((c ++ m) ++ (d ++ t))
 head_parts a n b k c m d t = simp (append_assoc, append-nil)
@@ -60,22 +70,26 @@ pub sayings-more : (entry : Entry) (entries : List Entry) → pieces_text (flat_
 sayings-more entry entries = pieces_text-append (saying entry) (flat_map saying entries)
 
 -- the revisions from this place on
-pub changes-here : (book : List Entry) (revisions : List Revision) (locked : List Bool) (place : ℕ) (revision : Revision) (lock other : Bool) → place < length revisions → place < length locked →
-    revision ≡ get_or revisions place revision → lock ≡ get_or locked place other →
-    pieces_text (changes book (drop place revisions) (drop place locked))
-    ≡ pieces_text (change revision (verdict_at book revision.number) lock (last_words book revision.number)) ++ pieces_text (changes book (drop (place + 1) revisions) (drop (place + 1) locked))
-changes-here book revisions locked place revision lock other within also r l =
-    ap (λ rs. pieces_text (changes book rs (drop place locked))) (drop_more revisions place revision within ∙ ap (λ x. x ∷ drop (place + 1) revisions) (sym r))
-    ∙ ap (λ ls. pieces_text (changes book (revision ∷ drop (place + 1) revisions) ls)) (drop_more locked place other also ∙ ap (λ x. x ∷ drop (place + 1) locked) (sym l))
-    ∙ pieces_text-append (change revision (verdict_at book revision.number) lock (last_words book revision.number)) (changes book (drop (place + 1) revisions) (drop (place + 1) locked))
+pub changes-here : (book : List Entry) (revisions : List Revision) (locked : List Bool) (said : List (List ℕ)) (place : ℕ) (revision : Revision) (lock other : Bool) (words : List ℕ)
+    → place < length revisions → place < length locked → place < length said →
+    revision ≡ get_or revisions place revision → lock ≡ get_or locked place other → words ≡ get_or said place words →
+    pieces_text (changes book (drop place revisions) (drop place locked) (drop place said))
+    ≡ pieces_text (change revision (verdict_at book revision.number) lock words (last_words book revision.number))
+    ++ pieces_text (changes book (drop (place + 1) revisions) (drop (place + 1) locked) (drop (place + 1) said))
+changes-here book revisions locked said place revision lock other words within also too r l w =
+    ap (λ rs. pieces_text (changes book rs (drop place locked) (drop place said))) (drop_more revisions place revision within ∙ ap (λ x. x ∷ drop (place + 1) revisions) (sym r))
+    ∙ ap (λ ls. pieces_text (changes book (revision ∷ drop (place + 1) revisions) ls (drop place said))) (drop_more locked place other also ∙ ap (λ x. x ∷ drop (place + 1) locked) (sym l))
+    ∙ ap (λ ws. pieces_text (changes book (revision ∷ drop (place + 1) revisions) (lock ∷ drop (place + 1) locked) ws)) (drop_more said place words too ∙ ap (λ x. x ∷ drop (place + 1) said) (sym w))
+    ∙ pieces_text-append (change revision (verdict_at book revision.number) lock words (last_words book revision.number)) (changes book (drop (place + 1) revisions) (drop (place + 1) locked) (drop (place + 1) said))
 
-pub changes-end : (book : List Entry) (revisions : List Revision) (locked : List Bool) (place : ℕ) → length revisions ≤ place → pieces_text (changes book (drop place revisions) (drop place locked)) ≡ []
-changes-end book revisions locked place past = ap (λ rs. pieces_text (changes book rs (drop place locked))) (drop_all place revisions past)
+pub changes-end : (book : List Entry) (revisions : List Revision) (locked : List Bool) (said : List (List ℕ)) (place : ℕ) → length revisions ≤ place
+    → pieces_text (changes book (drop place revisions) (drop place locked) (drop place said)) ≡ []
+changes-end book revisions locked said place past = ap (λ rs. pieces_text (changes book rs (drop place locked) (drop place said))) (drop_all place revisions past)
 
 -- ---- items
 
-change-has : (revision : Revision) (verdict : Verdict) (locked : Bool) (words : List Entry) → has_item revision.number (change revision verdict locked words) ≡ true
-change-has revision verdict locked words =
+change-has : (revision : Revision) (verdict : Verdict) (locked : Bool) (said : List ℕ) (words : List Entry) → has_item revision.number (change revision verdict locked said words) ≡ true
+change-has revision verdict locked said words =
     or_left (opens_item (own "<li id=\"revision-") && eqb revision.number revision.number) _ (and_from (opens_item (own "<li id=\"revision-")) (eqb revision.number revision.number) refl (eq-eqb revision.number revision.number refl))
 
 all-map : (P Q : Revision → Type 0) → ((x : Revision) → P x → Q x) → (xs : List Revision) → AllByRecursion P xs → AllByRecursion Q xs
@@ -83,13 +97,14 @@ all-map P Q f [] h = tt
 all-map P Q f (x ∷ xs) h = (f x h.0, all-map P Q f xs h.1)
 
 -- each revision has an item
-pub changes-have : (book : List Entry) (revisions : List Revision) (locked : List Bool) → length locked ≡ length revisions →
-    AllByRecursion (λ revision. has_item revision.number (changes book revisions locked) ≡ true) revisions
-changes-have book [] locked e = tt
-changes-have book (revision ∷ later) [] e = absurd (omega (arith, e))
-changes-have book (revision ∷ later) (lock ∷ locked) e =
-    let own_item = change revision (verdict_at book revision.number) lock (last_words book revision.number) in (
-      has-left opens_item revision.number own_item (changes book later locked) (change-has revision (verdict_at book revision.number) lock (last_words book revision.number)),
-      all-map (λ r. has_item r.number (changes book later locked) ≡ true) (λ r. has_item r.number (own_item ++ changes book later locked) ≡ true)
-          (λ r h. has-right opens_item r.number own_item (changes book later locked) h) later (changes-have book later locked (omega (arith, e))),
+pub changes-have : (book : List Entry) (revisions : List Revision) (locked : List Bool) (said : List (List ℕ)) → length locked ≡ length revisions → length said ≡ length revisions →
+    AllByRecursion (λ revision. has_item revision.number (changes book revisions locked said) ≡ true) revisions
+changes-have book [] locked said e f = tt
+changes-have book (revision ∷ later) [] said e f = absurd (omega (arith, e))
+changes-have book (revision ∷ later) (lock ∷ locked) [] e f = absurd (omega (arith, f))
+changes-have book (revision ∷ later) (lock ∷ locked) (words ∷ said) e f =
+    let own_item = change revision (verdict_at book revision.number) lock words (last_words book revision.number) in (
+      has-left opens_item revision.number own_item (changes book later locked said) (change-has revision (verdict_at book revision.number) lock words (last_words book revision.number)),
+      all-map (λ r. has_item r.number (changes book later locked said) ≡ true) (λ r. has_item r.number (own_item ++ changes book later locked said) ≡ true)
+          (λ r h. has-right opens_item r.number own_item (changes book later locked said) h) later (changes-have book later locked said (omega (arith, e)) (omega (arith, f))),
     )

@@ -33,9 +33,9 @@ pub reviewer_list-text : (book : List Entry) → pieces_text (reviewer_list book
 reviewer_list-text book = ap (λ l. codes "</ol>\n<ul>\n" ++ l) (pieces_text-append (reviewers book) _)
 
 pub lists-text : (page : Shown) → pieces_text (lists page)
-    ≡ codes before_changes ++ (pieces_text (changes page.book page.revisions page.locked) ++ pieces_text (reviewer_list page.book))
+    ≡ codes before_changes ++ (pieces_text (changes page.book page.revisions page.locked page.said) ++ pieces_text (reviewer_list page.book))
 lists-text page =
-    ap (λ l. codes before_changes ++ l) (pieces_text-append (changes page.book page.revisions page.locked) (reviewer_list page.book))
+    ap (λ l. codes before_changes ++ l) (pieces_text-append (changes page.book page.revisions page.locked page.said) (reviewer_list page.book))
 
 pub body-text : (page : Shown) → pieces_text (body page)
     ≡ pieces_text (body_head page.digest (length page.revisions) page.heading) ++ (pieces_text (sections shown page.revisions true (parts_of page.nodes)) ++ pieces_text (lists page))

@@ -1,7 +1,7 @@
--- The list of changes beside the document (our own rule): an item for each revision in the order of the numbers, with the last words
--- of each reviewer on it; and the reviewers, each with the greatest sequence number of their entries.
+-- The list of changes beside the document (our own rule): an item for each revision in the order of the numbers, with what it changes
+-- where it is a change of properties, and the last words of each reviewer on it; and the reviewers, each with the greatest sequence number of their entries.
 use Prim.Native.String.{String}
-use Rattle.std.specs.Prelude.{ℕ, ◌==◌, List, [], ◌∷◌, ◌++◌, Bool, true, false, Option, Some, None, codes, if◌then◌else◌}
+use Rattle.std.specs.Prelude.{ℕ, ◌==◌, List, [], ◌∷◌, ◌++◌, Bool, true, false, Option, Some, None, codes, length, if◌then◌else◌}
 use Rattle.std.specs.List.{flat_map}
 use Rattle.std.specs.Str.{bytes_eq}
 use Rattle.redl_kinds.specs.KindNames.{kind_name}
@@ -62,16 +62,21 @@ change_head revision =
 abbrev pub change_state : Verdict → Bool → List Piece
 change_state verdict locked = own (verdict_before verdict) ∷ own (locked_before locked) ∷ []
 
-abbrev pub change : Revision → Verdict → Bool → List Entry → List Piece
-change revision verdict locked words =
-    change_head revision ++ (change_state verdict locked ++ (flat_map saying words ++ (own "</li>\n" ∷ [])))
+-- what a change of properties changes, in these words; without words there is nothing
+abbrev pub properties : List ℕ → List Piece
+properties said = if length said == 0 then [] else own "<p class=\"changed\"><bdi>" ∷ outside said ∷ own "</bdi></p>" ∷ []
 
--- the revisions of a package, where these are locked or not, under the entries of a book
-abbrev pub changes : List Entry → List Revision → List Bool → List Piece
-changes book [] locked = []
-changes book (revision ∷ later) [] = []
-changes book (revision ∷ later) (lock ∷ locked) =
-    change revision (verdict_at book revision.number) lock (last_words book revision.number) ++ changes book later locked
+abbrev pub change : Revision → Verdict → Bool → List ℕ → List Entry → List Piece
+change revision verdict locked said words =
+    change_head revision ++ (change_state verdict locked ++ (properties said ++ (flat_map saying words ++ (own "</li>\n" ∷ []))))
+
+-- the revisions of a package, where these are locked or not and these words say what they change, under the entries of a book
+abbrev pub changes : List Entry → List Revision → List Bool → List (List ℕ) → List Piece
+changes book [] locked said = []
+changes book (revision ∷ later) [] said = []
+changes book (revision ∷ later) (lock ∷ locked) [] = []
+changes book (revision ∷ later) (lock ∷ locked) (words ∷ said) =
+    change revision (verdict_at book revision.number) lock words (last_words book revision.number) ++ changes book later locked said
 
 -- ---- reviewers
 

@@ -26,11 +26,13 @@ pub record Heading : Type 0 where
 abbrev pub heading_with : Option (List ℕ) → Option ℕ → Heading
 heading_with title rank = record { title = title; rank = rank }
 
--- a package with its revisions, which of these are locked, the book of its journals, its digest, and what the sender gives
+-- a package with its revisions, which of these are locked, what each of them changes in words, the book of its journals, its digest,
+-- and what the sender gives
 pub record Shown : Type 0 where
   pub nodes : Nodes
   pub revisions : List Revision
   pub locked : List Bool
+  pub said : List (List ℕ)
   pub book : List Entry
   pub digest : List ℕ
   pub heading : Heading
@@ -78,7 +80,7 @@ before_changes =
 
 abbrev pub lists : Shown → List Piece
 lists page =
-    own before_changes ∷ (changes page.book page.revisions page.locked ++ reviewer_list page.book)
+    own before_changes ∷ (changes page.book page.revisions page.locked page.said ++ reviewer_list page.book)
 
 -- the document, the list of changes, and the reviewers
 abbrev pub body : Shown → List Piece

@@ -19,6 +19,7 @@ shown_by page = record {
   nodes = page.package.now;
   revisions = page.index.now;
   locked = page.locked.now;
+  said = page.said.now;
   book = page.book.now;
   digest = page.digest.now;
   heading = heading_view page.heading;

@@ -9,7 +9,7 @@ ghost use Rattle.redl_index.specs.Revisions.{IsListable};
 ghost use Rattle.redl_join.specs.LastWords.{last_words, words_on};
 ghost use Rattle.redl_formats.specs.Dates.{date_text, moment_text};
 ghost use Rattle.redl_stamp.specs.Moment.{IsMoment};
-ghost use Rattle.redl_page.specs.Changes.{change, change_head, change_state, changes, locked_before, rank_words, saying, saying_end, verdict_before, word_after, word_before};
+ghost use Rattle.redl_page.specs.Changes.{change, change_head, change_state, changes, locked_before, properties, rank_words, saying, saying_end, verdict_before, word_after, word_before};
 ghost use Rattle.redl_html.specs.Escaping.{escaped};
 ghost use Rattle.redl_html.specs.Pieces.{pieces_text};
 
@@ -17,24 +17,26 @@ use itoa::Buffer;
 use redl_formats::moment_text;
 use redl_html::put_escaped;
 use redl_index::{Index, Revision};
-use redl_io::{Failed, Sink, put_piece, put_pieces};
+use redl_io::{Failed, Sink, Text, put_piece, put_pieces};
 use redl_join::{Book, LastWords, Verdict};
 use redl_journal::{Entry, Word};
 
-/// Puts an item for each revision in the order of the numbers, with what the book decides on it, whether it is locked, and the last
-/// words on it. It takes no memory.
+/// Puts an item for each revision in the order of the numbers, with what the book decides on it, whether it is locked, what it changes
+/// in these words, and the last words on it. It takes no memory.
 pub(crate) fn put_changes<K: Sink>(
     index: &Index,
     book: &Book,
     words: &LastWords<'_>,
     locked: &[bool],
+    said: &[Text],
     out: &mut K,
 ) -> Result<(), Failed>
     requires words { (rev : ℕ) → words_on words.now rev ≡ last_words book.now rev }
     requires locked { length locked.now ≡ length index.now }
-    ensures { Puts K.told K.faults K.settled K.lenders out.old out.new (pieces_text (changes book.now index.now locked.now)) result }
+    requires said { length said.now ≡ length index.now }
+    ensures { Puts K.told K.faults K.settled K.lenders out.old out.new (pieces_text (changes book.now index.now locked.now said.now)) result }
 {
-    put_each(index.revisions(), book, words, locked, out)
+    put_each(index.revisions(), book, words, locked, said, out)
 }
 
 fn put_each<K: Sink>(
@@ -42,12 +44,14 @@ fn put_each<K: Sink>(
     book: &Book,
     words: &LastWords<'_>,
     locked: &[bool],
+    said: &[Text],
     out: &mut K,
 ) -> Result<(), Failed>
     requires told { All IsListable revisions.now }
     requires words { (rev : ℕ) → words_on words.now rev ≡ last_words book.now rev }
     requires locked { length locked.now ≡ length revisions.now }
-    ensures { Puts K.told K.faults K.settled K.lenders out.old out.new (pieces_text (changes book.now revisions.now locked.now)) result }
+    requires said { length said.now ≡ length revisions.now }
+    ensures { Puts K.told K.faults K.settled K.lenders out.old out.new (pieces_text (changes book.now revisions.now locked.now said.now)) result }
 {
     for place in 0..revisions.len() {
         let revision = &revisions[place];
@@ -56,6 +60,7 @@ fn put_each<K: Sink>(
             revision,
             verdict,
             locked[place],
+            &said[place],
             words.on(revision.number),
             out,
         )?;
@@ -67,14 +72,16 @@ fn put_change<K: Sink>(
     revision: &Revision,
     verdict: Verdict,
     locked: bool,
+    said: &Text,
     words: &[&Entry],
     out: &mut K,
 ) -> Result<(), Failed>
     requires { IsListable revision.now }
-    ensures { Puts K.told K.faults K.settled K.lenders out.old out.new (pieces_text (change revision.now verdict locked (map deref words.now))) result }
+    ensures { Puts K.told K.faults K.settled K.lenders out.old out.new (pieces_text (change revision.now verdict locked said.now (map deref words.now))) result }
 {
     put_change_head(revision, out)?;
     put_change_state(verdict, locked, out)?;
+    put_properties(said, out)?;
     put_sayings(words, out)?;
     put_piece(b"</li>\n", out)
 }
@@ -166,6 +173,19 @@ fn locked_before(locked: bool) -> &'static [u8]
         true => b"yes\">",
         false => b"no\">",
     }
+}
+
+// Puts what a change of properties changes, where there are words of it.
+fn put_properties<K: Sink>(said: &Text, out: &mut K) -> Result<(), Failed>
+    ensures { Puts K.told K.faults K.settled K.lenders out.old out.new (pieces_text (properties said.now)) result }
+{
+    let bytes = said.as_bytes();
+    if bytes.is_empty() {
+        return Ok(());
+    }
+    put_piece(b"<p class=\"changed\"><bdi>", out)?;
+    put_escaped(bytes, out)?;
+    put_piece(b"</bdi></p>", out)
 }
 
 fn put_sayings<K: Sink>(words: &[&Entry], out: &mut K) -> Result<(), Failed>

@@ -13,7 +13,7 @@ use crate::reviewers::put_reviewers;
 use itoa::Buffer;
 use redl_html::put_escaped;
 use redl_index::Index;
-use redl_io::{Failed, Sink, put_piece, put_pieces};
+use redl_io::{Failed, Sink, Text, put_piece, put_pieces};
 use redl_join::{Book, LastWords};
 use redl_opc::Package;
 use redl_page_stories::put_document;
@@ -48,6 +48,8 @@ pub struct Shown<'a, 'b> {
     pub index: &'a Index,
     /// Whether each revision is locked, in the order of their numbers.
     pub locked: &'a [bool],
+    /// What each revision changes, in words, in the order of their numbers. A text without bytes says nothing.
+    pub said: &'a [Text],
     /// The joined book.
     pub book: &'a Book,
     /// The SHA-256 of the text of the package.
@@ -73,7 +75,7 @@ const AFTER_SCRIPT: &[u8] = b"</script>\n</body>\n</html>\n";
 /// Puts the page: one document of HTML with the stories of the package, an element for each member of a revision, the list of the
 /// revisions with each reviewer's last words, and the reviewers.
 ///
-/// `words` are the last words of the book, and `locked` says of each revision whether it is locked. It goes once over the package and
+/// `words` are the last words of the book. `locked` says of each revision whether it is locked, and `said` what it changes. It goes once over the package and
 /// once over the revisions, and takes no memory. `Failed` comes only where the sink failed, which then has only a prefix.
 pub fn write_page<K: Sink>(
     skin: &Skin<'_>,
@@ -83,6 +85,7 @@ pub fn write_page<K: Sink>(
 ) -> Result<(), Failed>
     requires words { (rev : ℕ) → words_on words.now rev ≡ last_words page.now.book.now rev }
     requires locked { length page.now.locked.now ≡ length page.now.index.now }
+    requires said { length page.now.said.now ≡ length page.now.index.now }
     ensures { Puts K.told K.faults K.settled K.lenders out.old out.new (page_text (skin_view skin.now) (shown_by page.now)) result }
 {
     put_head(skin, page.heading.title, out)?;
@@ -117,6 +120,7 @@ fn put_end<K: Sink>(skin: &Skin<'_>, out: &mut K) -> Result<(), Failed>
 fn put_body<K: Sink>(page: &Shown<'_, '_>, words: &LastWords<'_>, out: &mut K) -> Result<(), Failed>
     requires words { (rev : ℕ) → words_on words.now rev ≡ last_words page.now.book.now rev }
     requires locked { length page.now.locked.now ≡ length page.now.index.now }
+    requires said { length page.now.said.now ≡ length page.now.index.now }
     ensures { Puts K.told K.faults K.settled K.lenders out.old out.new (pieces_text (body (shown_by page.now))) result }
 {
     put_body_head(page.digest, page.index.count(), page.heading, out)?;
@@ -209,10 +213,11 @@ fn put_lists<K: Sink>(
 ) -> Result<(), Failed>
     requires words { (rev : ℕ) → words_on words.now rev ≡ last_words page.now.book.now rev }
     requires locked { length page.now.locked.now ≡ length page.now.index.now }
+    requires said { length page.now.said.now ≡ length page.now.index.now }
     ensures { Puts K.told K.faults K.settled K.lenders out.old out.new (pieces_text (lists (shown_by page.now))) result }
 {
     put_piece(BEFORE_CHANGES, out)?;
-    put_changes(page.index, page.book, words, page.locked, out)?;
+    put_changes(page.index, page.book, words, page.locked, page.said, out)?;
     put_reviewer_list(page.book, out)
 }
 

@@ -14,14 +14,17 @@ returns-in_err-put_change g c =
     let locked = c.args.locked.now in
     let place = c.loop-place.place in
     let revision = c.index-revisions-place.result in
+    let said = c.args.said.now in
     let lock = get_or locked place false in
-    let rest = pieces_text (changes book (drop (place + 1) revisions) (drop (place + 1) locked)) in
+    let line = c.index-said-place.result in
+    let rest = pieces_text (changes book (drop (place + 1) revisions) (drop (place + 1) locked) (drop (place + 1) said)) in
     let within : place < length revisions = omega arith in
     let also : place < length locked = omega (arith, c.requires.locked) in
-    so_far_stops (pieces_text (change revision c.verdict-verdict.result lock (map deref c.on.result.now))) rest
-    (changes-here book revisions locked place revision lock false within also c.index-revisions-place.is refl
-    ∙ ap (λ v. pieces_text (change revision v lock (last_words book revision.number)) ++ rest) (sym c.verdict-verdict.ensures)
-    ∙ ap (λ ws. pieces_text (change revision c.verdict-verdict.result lock ws) ++ rest) (sym (c.on.ensures ∙ c.requires.words revision.number)))
+    let too : place < length said = omega (arith, c.requires.said) in
+    so_far_stops (pieces_text (change revision c.verdict-verdict.result lock line (map deref c.on.result.now))) rest
+    (changes-here book revisions locked said place revision lock false line within also too c.index-revisions-place.is refl c.index-said-place.is
+    ∙ ap (λ v. pieces_text (change revision v lock line (last_words book revision.number)) ++ rest) (sym c.verdict-verdict.ensures)
+    ∙ ap (λ ws. pieces_text (change revision c.verdict-verdict.result lock line ws) ++ rest) (sym (c.on.ensures ∙ c.requires.words revision.number)))
     c.from_residual.ensures.1 c.loop-place.invariant c.in_err-put_change.ensures
 
 pub loop-place-preserved : goal.loop-place-preserved
@@ -31,15 +34,18 @@ loop-place-preserved g c =
     let locked = c.args.locked.now in
     let place = c.loop-place.place in
     let revision = c.index-revisions-place.result in
+    let said = c.args.said.now in
     let lock = get_or locked place false in
-    let rest = pieces_text (changes book (drop (place + 1) revisions) (drop (place + 1) locked)) in
+    let line = c.index-said-place.result in
+    let rest = pieces_text (changes book (drop (place + 1) revisions) (drop (place + 1) locked) (drop (place + 1) said)) in
     let within : place < length revisions = omega arith in
     let also : place < length locked = omega (arith, c.requires.locked) in
-    so_far_goes_on (pieces_text (change revision c.verdict-verdict.result lock (map deref c.on.result.now))) rest
-    (changes-here book revisions locked place revision lock false within also c.index-revisions-place.is refl
-    ∙ ap (λ v. pieces_text (change revision v lock (last_words book revision.number)) ++ rest) (sym c.verdict-verdict.ensures)
-    ∙ ap (λ ws. pieces_text (change revision c.verdict-verdict.result lock ws) ++ rest) (sym (c.on.ensures ∙ c.requires.words revision.number)))
+    let too : place < length said = omega (arith, c.requires.said) in
+    so_far_goes_on (pieces_text (change revision c.verdict-verdict.result lock line (map deref c.on.result.now))) rest
+    (changes-here book revisions locked said place revision lock false line within also too c.index-revisions-place.is refl c.index-said-place.is
+    ∙ ap (λ v. pieces_text (change revision v lock line (last_words book revision.number)) ++ rest) (sym c.verdict-verdict.ensures)
+    ∙ ap (λ ws. pieces_text (change revision c.verdict-verdict.result lock line ws) ++ rest) (sym (c.on.ensures ∙ c.requires.words revision.number)))
     c.loop-place.invariant c.in_ok-put_change.ensures
 
 pub returns : goal.returns
-returns g c = so_far_ends (changes-end c.args.book.now c.args.revisions.now c.args.locked.now c.loop-place.place (omega arith)) c.loop-place.invariant
+returns g c = so_far_ends (changes-end c.args.book.now c.args.revisions.now c.args.locked.now c.args.said.now c.loop-place.place (omega arith)) c.loop-place.invariant
