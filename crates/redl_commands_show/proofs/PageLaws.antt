@@ -1,13 +1,22 @@
 -- What a page shows, where its parts are the same.
-use Rattle.std.proofs.Common.{◌≡◌, Bool, List, ℕ}
+use Rattle.std.proofs.Common.{◌≡◌, ◌∙◌, Bool, List, length, ℕ}
+use Rattle.std.proofs.lemmas.List.{length-map}
+use Rattle.redl_excerpts.specs.Excerpts.{excerpt_of, excerpts_of}
+use Rattle.redl_excerpts.specs.Properties.{changed_lines, changed_words}
 use Rattle.redl_index.specs.declared.revision.Revision.{Revision}
 use Rattle.redl_journal.specs.declared.entry.Entry.{Entry}
 use Rattle.redl_page.specs.Page.{Heading, Shown}
 use Rattle.redl_tree.specs.Model.Nodes.{Nodes}
 
-abbrev pub shown_with : Nodes → List Revision → List Bool → List Entry → List ℕ → Heading → Shown
-shown_with nodes revisions locked book digest heading = record { nodes = nodes; revisions = revisions; locked = locked; book = book; digest = digest; heading = heading }
+abbrev pub shown_with : Nodes → List Revision → List Bool → List (List ℕ) → List Entry → List ℕ → Heading → Shown
+shown_with nodes revisions locked said book digest heading =
+    record { nodes = nodes; revisions = revisions; locked = locked; said = said; book = book; digest = digest; heading = heading }
 
-pub same_shown : (nodes other : Nodes) (revisions others : List Revision) (locked : List Bool) (book more : List Entry) (digest : List ℕ) (heading : Heading) → nodes ≡ other → revisions ≡ others
-    → book ≡ more → shown_with nodes revisions locked book digest heading ≡ shown_with other others locked more digest heading
-same_shown nodes other revisions others locked book more digest heading of_nodes of_revisions of_book = cc
+pub same_shown : (nodes other : Nodes) (revisions others : List Revision) (locked flags : List Bool) (said lines : List (List ℕ)) (book more : List Entry) (digest : List ℕ) (heading : Heading)
+    → nodes ≡ other → revisions ≡ others → locked ≡ flags → said ≡ lines → book ≡ more
+    → shown_with nodes revisions locked said book digest heading ≡ shown_with other others flags lines more digest heading
+same_shown nodes other revisions others locked flags said lines book more digest heading of_nodes of_revisions of_locked of_said of_book = cc
+
+-- each revision has a line
+pub changed_lines-length : (nodes : Nodes) (revisions : List Revision) → length (changed_lines nodes revisions) ≡ length revisions
+changed_lines-length nodes revisions = length-map (excerpts_of nodes revisions) changed_words ∙ length-map revisions (excerpt_of nodes)

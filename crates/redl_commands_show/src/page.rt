@@ -6,6 +6,7 @@ ghost use Rattle.std.specs.Prelude.{◌≡◌, ℕ, Ok, All, IfOk, IsUtf8, OnErr
 ghost use Rattle.std.specs.Io.KnownBytes.{append_known};
 ghost use Rattle.redl_commands_shown.specs.Page.{is_locked, page_of, paged, shown_of};
 ghost use Rattle.redl_commands.specs.Endings.{Ends, EndsAlone, Finishes};
+ghost use Rattle.redl_excerpts.specs.Properties.{changed_lines};
 ghost use Rattle.redl_inputs.specs.Views.{admission_view};
 ghost use Rattle.redl_io.specs.Sink.{CountsPut, GrowsByFront};
 ghost use Rattle.redl_join.specs.LastWords.{last_words, words_on};
@@ -14,9 +15,10 @@ ghost use Rattle.redl_lines.specs.Remarks.{remarks_view};
 ghost use Rattle.redl_page.specs.Page.{heading_with, page_text};
 ghost use Rattle.redl_page.specs.PageViews.{heading_view, shown_by, skin_view};
 
+use redl_excerpts::changed_lines;
 use redl_index::Revision;
 use redl_inputs::{Admitted, open};
-use redl_io::{Failed, Shelf, Sink, Staged};
+use redl_io::{Failed, Shelf, Sink, Staged, Text};
 use redl_join::LastWords;
 use redl_kinds::Lock;
 use redl_lines::{End, Failure, Remarks};
@@ -85,25 +87,45 @@ fn show<'a, O: Sink>(
     } = admitted;
     let mut document = document;
     let digest = document.id().digest;
-    let Ok(locked) = locked_revisions(alloc, session.index().revisions(), locks) else {
+    let Ok(facts) = facts_of(alloc, &session, locks) else {
         return End::Failed(Failure::NoMemory);
     };
-    put_session(&session, &locked, &digest, heading, remarks, skin, out)
+    put_session(&session, &facts, &digest, heading, remarks, skin, out)
 }
 
-// Puts the page of a session, of whose revisions these are locked, and of whose package this is the digest.
+// What a page says of each revision besides its row and the words on it.
+#[derive(Drop)]
+struct Facts {
+    // Whether it is locked.
+    locked: Vec<bool>,
+    // What it changes, in words.
+    said: Vec<Text>,
+}
+
+// The same of a session with these locks.
+fn facts_of(alloc: Global, session: &Session<'_>, locks: &[Lock]) -> Result<Facts, AllocError>
+    ensures locked { IfOk result (λ facts. facts.locked.items ≡ map (is_locked locks.now) session.now.revisions) }
+    ensures said { IfOk result (λ facts. facts.said.items ≡ changed_lines session.now.nodes session.now.revisions) }
+{
+    let locked = locked_revisions(alloc, session.index().revisions(), locks)?;
+    let said = changed_lines(alloc, session.package(), session.index())?;
+    Ok(Facts { locked, said })
+}
+
+// Puts the page of a session with these facts, of whose package this is the digest.
 fn put_session<'a, O: Sink>(
     session: &Session<'_>,
-    locked: &[bool],
+    facts: &Facts,
     digest: &[u8; 32],
     heading: Heading<'_>,
     remarks: Remarks,
     skin: &Skin<'_>,
     out: &mut O,
 ) -> End<'a>
-    requires { length locked.now ≡ length session.now.revisions }
+    requires locked { length facts.now.locked.items ≡ length session.now.revisions }
+    requires said { facts.now.said.items ≡ changed_lines session.now.nodes session.now.revisions }
     ensures { EndsAlone O.told O.faults out.old out.new
-        (λ _. Ok (record { bytes = page_text (skin_view skin.now) (shown_of session.now locked.now digest.now (heading_view heading.entry)); remarks = remarks_view remarks }))
+        (λ _. Ok (record { bytes = page_text (skin_view skin.now) (shown_of session.now facts.now.locked.items digest.now (heading_view heading.entry)); remarks = remarks_view remarks }))
         (end_view result) }
 {
     let Ok(words) = session.book().last_words() else {
@@ -112,7 +134,8 @@ fn put_session<'a, O: Sink>(
     let page = Shown {
         package: session.package(),
         index: session.index(),
-        locked,
+        locked: &facts.locked,
+        said: &facts.said,
         book: session.book(),
         digest,
         heading,
@@ -151,6 +174,7 @@ fn put_shown<'a, O: Sink>(
 ) -> End<'a>
     requires words { (rev : ℕ) → words_on words.now rev ≡ last_words page.now.book.now rev }
     requires locked { length page.now.locked.now ≡ length page.now.index.now }
+    requires said { length page.now.said.now ≡ length page.now.index.now }
     ensures { Finishes O.told O.faults out.old out.new
         (Ok (record { bytes = page_text (skin_view skin.now) (shown_by page.now); remarks = remarks_view remarks })) (end_view result) }
 {
@@ -169,6 +193,7 @@ fn put_staged<O: Sink>(
 ) -> Result<(), Failed>
     requires words { (rev : ℕ) → words_on words.now rev ≡ last_words page.now.book.now rev }
     requires locked { length page.now.locked.now ≡ length page.now.index.now }
+    requires said { length page.now.said.now ≡ length page.now.index.now }
     ensures all { OnOk result (O.told out.new ≡ append_known (O.told out.old) (page_text (skin_view skin.now) (shown_by page.now))) }
     ensures front { OnErr result (GrowsByFront (O.told out.old) (O.told out.new) (page_text (skin_view skin.now) (shown_by page.now))) }
     ensures cause { CountsPut (O.faults out.old) (O.faults out.new) result }

@@ -1,5 +1,6 @@
 -- `page P` with a title, a rank, journals and locks: a page on which a reviewer sees the revisions of the package and decides in a browser.
 use Rattle.std.specs.Prelude.{ℕ, Bool, List, map, is_some, Result, Ok}
+use Rattle.redl_excerpts.specs.Properties.{changed_lines}
 use Rattle.redl_inputs.specs.Admission.{Admission, opened}
 use Rattle.redl_inputs.specs.Readers.{Reader}
 use Rattle.redl_inputs.specs.Steps.{◌>>=◌}
@@ -16,11 +17,19 @@ use Rattle.redl_session.specs.Sessions.{SessionState}
 abbrev pub is_locked : List Lock → Revision → Bool
 is_locked locks revision = is_some (bar_of locks revision)
 
--- what the page of a session shows: its package and revisions, which of these are locked, the admitted entries, the digest, and what
--- the sender gives
+-- what the page of a session shows: its package and revisions, which of these are locked, what each of them changes, the admitted
+-- entries, the digest, and what the sender gives
 abbrev pub shown_of : SessionState → List Bool → List ℕ → Heading → Shown
 shown_of state locked digest heading =
-    record { nodes = state.nodes; revisions = state.revisions; locked = locked; book = state.book; digest = digest; heading = heading }
+    record {
+      nodes = state.nodes;
+      revisions = state.revisions;
+      locked = locked;
+      said = changed_lines state.nodes state.revisions;
+      book = state.book;
+      digest = digest;
+      heading = heading;
+    }
 
 -- the same under these locks
 abbrev pub shown_in : Heading → List Lock → Admission → Shown

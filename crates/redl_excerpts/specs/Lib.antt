@@ -6,3 +6,4 @@ pub mod Mentions
 pub mod Excerpts
 pub mod Inside
 pub mod Details
+pub mod Properties

@@ -1,7 +1,8 @@
 use Rattle.std.proofs.Common.{◌∙◌, Err, Ok, ap, length, refl, subst, sym}
-use Rattle.redl_commands_show.proofs.PageLaws.{same_shown}
+use Rattle.redl_commands_show.proofs.PageLaws.{changed_lines-length, same_shown}
 use Rattle.redl_commands_shown.specs.Page.{shown_of}
 use Rattle.redl_commands.specs.Endings.{Finishes}
+use Rattle.redl_excerpts.specs.Properties.{changed_lines}
 use Rattle.redl_lines.specs.Ends.{end_view}
 use Rattle.redl_lines.specs.Failures.{no_memory}
 use Rattle.redl_lines.specs.Remarks.{remarks_view}
@@ -10,7 +11,12 @@ use Rattle.redl_page.specs.PageViews.{heading_view, skin_view}
 use Rattle.redl_commands_show.proofs.page.put_session.Goals as goal
 
 pub put_shown-requires-clause-locked : goal.put_shown-requires-clause-locked
-put_shown-requires-clause-locked g c = c.requires ∙ sym (ap length c.index.ensures)
+put_shown-requires-clause-locked g c = ap length c.deref.ensures.value ∙ c.requires.locked ∙ sym (ap length c.index.ensures)
+
+pub put_shown-requires-clause-said : goal.put_shown-requires-clause-said
+put_shown-requires-clause-said g c =
+    ap length (c.deref-2.ensures.value ∙ c.requires.said) ∙ changed_lines-length c.args.session.now.nodes c.args.session.now.revisions
+    ∙ sym (ap length c.index.ensures)
 
 pub returns-in_default : goal.returns-in_default
 returns-in_default g c = record {
@@ -22,14 +28,15 @@ returns-in_default g c = record {
 pub returns : goal.returns
 returns g c = record {
   made = Ok (record {
-    bytes = page_text (skin_view c.args.skin.now) (shown_of c.args.session.now c.args.locked.now c.args.digest.now (heading_view c.args.heading));
+    bytes = page_text (skin_view c.args.skin.now) (shown_of c.args.session.now c.args.facts.now.locked.items c.args.digest.now (heading_view c.args.heading));
     remarks = remarks_view c.args.remarks;
   });
   reads = record { as_due = λ reader reads. refl; never_unread = tt };
   finishes = subst
       (λ (shown : Shown). Finishes g.O.Sink.told g.O.Sink.faults c.args.out.now c.put_shown.new.out
       (Ok (record { bytes = page_text (skin_view c.args.skin.now) shown; remarks = remarks_view c.args.remarks })) (end_view c.put_shown.result))
-      (same_shown c.package.result.now c.args.session.now.nodes c.index.result.now c.args.session.now.revisions c.args.locked.now c.book-2.result.now c.args.session.now.book
-      c.args.digest.now (heading_view c.args.heading) c.package.ensures c.index.ensures c.book-2.ensures)
+      (same_shown c.package.result.now c.args.session.now.nodes c.index.result.now c.args.session.now.revisions c.deref.result.now c.args.facts.now.locked.items
+      c.deref-2.result.now (changed_lines c.args.session.now.nodes c.args.session.now.revisions) c.book-2.result.now c.args.session.now.book
+      c.args.digest.now (heading_view c.args.heading) c.package.ensures c.index.ensures c.deref.ensures.value (c.deref-2.ensures.value ∙ c.requires.said) c.book-2.ensures)
       c.put_shown.ensures;
 }

@@ -9,10 +9,8 @@ use Rattle.redl_page.specs.Page.{Shown, page_text}
 use Rattle.redl_page.specs.PageViews.{heading_view, skin_view}
 use Rattle.redl_commands_show.proofs.page.show.Goals as goal
 
-pub put_session-requires : goal.put_session-requires
-put_session-requires g c =
-    ap length (c.deref.ensures.value ∙ c.in-Ok.ensures) ∙ length-map c.revisions.result.now (is_locked c.args.locks.now)
-    ∙ ap length (c.revisions.ensures.value ∙ c.index.ensures)
+pub put_session-requires-clause-locked : goal.put_session-requires-clause-locked
+put_session-requires-clause-locked g c = ap length c.in-Ok.ensures.locked ∙ length-map c.args.admitted.session.revisions (is_locked c.args.locks.now)
 
 pub returns-in_default : goal.returns-in_default
 returns-in_default g c = record {
@@ -23,10 +21,8 @@ returns-in_default g c = record {
 
 pub returns : goal.returns
 returns g c =
-    let locked : c.deref.result.now ≡ map (is_locked c.args.locks.now) c.args.admitted.session.revisions =
-    c.deref.ensures.value ∙ c.in-Ok.ensures ∙ ap (map (is_locked c.args.locks.now)) (c.revisions.ensures.value ∙ c.index.ensures) in
-    let same : shown_of c.args.admitted.session c.deref.result.now c.id.result.digest (heading_view c.args.heading) ≡ shown_in (heading_view c.args.heading) c.args.locks.now (admission_view c.args.admitted) =
-    ap (λ (flags : List Bool). shown_of c.args.admitted.session flags c.id.result.digest (heading_view c.args.heading)) locked
+    let same : shown_of c.args.admitted.session c.in-Ok.facts.locked.items c.id.result.digest (heading_view c.args.heading) ≡ shown_in (heading_view c.args.heading) c.args.locks.now (admission_view c.args.admitted) =
+    ap (λ (flags : List Bool). shown_of c.args.admitted.session flags c.id.result.digest (heading_view c.args.heading)) c.in-Ok.ensures.locked
     ∙ ap (λ id. shown_of c.args.admitted.session (map (is_locked c.args.locks.now) c.args.admitted.session.revisions) id.digest (heading_view c.args.heading)) c.id.ensures.id in
     record {
       made = c.put_session.ensures.made;
