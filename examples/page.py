@@ -12,6 +12,7 @@ import os
 import re
 import sys
 
+import formats
 import reading
 
 SKIN = os.path.join(os.path.dirname(os.path.dirname(os.path.abspath(__file__))), "crates", "redl_skin", "page")
@@ -73,6 +74,8 @@ class Page:
     def __init__(self, package, entries, locks=()):
         self.package, self.locks = package, locks
         self.book = reading.admitted(package, entries, locks)
+        found = (element for _, root in package.stories for element in reading.elements([root]))
+        self.changes = {element.number: element for element in found if element.number and element.role in reading.CHANGES.values()}
 
     def author(self, number):
         return escaped(self.package.revisions[number - 1].author)
@@ -192,6 +195,12 @@ class Page:
         say = lambda word, rank, who: '<p data-word="%s" data-rank="%d"><bdi>%s</bdi>: %s%s</p>' % (word, rank, escaped(who), DONE[word], ranked(rank))
         return "".join(say(entry[3], rank_of(entry), entry[0]) for entry in here if entry[1] == latest[entry[0]])
 
+    def changed(self, number):
+        """What a change of properties changes, in words."""
+        if number not in self.changes:
+            return ""
+        return '<p class="changed"><bdi>%s</bdi></p>' % escaped(formats.line(formats.compared(self.changes[number])))
+
     def row(self, number, revision):
         date = "-"
         if revision.date is not None:
@@ -199,7 +208,7 @@ class Page:
         locked = "yes" if reading.refusal(self.package, ("", 1, number, "accept"), self.locks) else "no"
         values = (number, revision.kind, escaped(revision.author), date, reading.verdict(number, self.book), locked)
         start = '<li id="revision-%d" data-kind="%s" data-author="%s" data-date="%s" data-verdict="%s" data-locked="%s">'
-        return start % values + self.says(number) + "</li>\n"
+        return start % values + self.changed(number) + self.says(number) + "</li>\n"
 
     def reviewers(self):
         greatest = {}

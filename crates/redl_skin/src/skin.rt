@@ -2,7 +2,7 @@
 
 /// The security policy of the page: its own style and script alone, and nothing is ever fetched.
 pub const POLICY: &str =
-    "default-src 'none'; script-src 'sha256-MePxmD9QQeh1Wgutd1cO3GpGgR49vRZdwQTDKB3+hLY='; style-src 'sha256-CxcpslcO+4WZnmyJEiCEgQPtx9dV6DWkjHf9ExhkwgA='; base-uri 'none'; form-action 'none'; require-trusted-types-for 'script'; trusted-types 'none'";
+    "default-src 'none'; script-src 'sha256-oADq5vwEyWcrGuuomWvmcQwIXd9disD1R5e4Xko2L2A='; style-src 'sha256-KshcZlEQkCT/MApN3rZ2J3HLKE5I4sDztOL4gIoGzUI='; base-uri 'none'; form-action 'none'; require-trusted-types-for 'script'; trusted-types 'none'";
 
 /// The style sheet of the page.
 pub const STYLE: &str = "/* colours, and what all elements share */
@@ -167,7 +167,7 @@ aside > ol > .room { padding: 0; border: 0; cursor: default; }
 aside li[aria-current] { border-left-color: var(--focus); background: color-mix(in srgb, var(--focus) 7%, transparent); }
 aside li p { margin: 0 0 .2rem; color: var(--soft); overflow-wrap: anywhere; }
 .head { display: flex; justify-content: space-between; gap: .6em; }
-.head b, li .words { color: var(--ink); }
+.head b, li .words, li .changed { color: var(--ink); }
 .who { color: var(--author); font-weight: 600; }
 .verdict { white-space: nowrap; }
 [data-verdict=\"accept\"] .verdict { color: var(--yes); }
@@ -303,6 +303,8 @@ const KINDS = {
   \"table-props\": \"table formatted\", \"except-props\": \"table format of a row changed\", \"row-props\": \"row formatted\",
   \"cell-props\": \"cell formatted\",
 };
+// What the program says of a change of format that a reader doesn't see.
+const LANGUAGE = \"language only\";
 
 // What is known of each change by its place, read once.
 
@@ -310,6 +312,8 @@ const kindsOf = rows.map((row) => row.dataset.kind);
 const authorsOf = rows.map((row) => row.dataset.author);
 const verdictsOf = rows.map((row) => row.dataset.verdict);
 const lockedAt = rows.map((row) => row.dataset.locked === \"yes\");
+// What a change of properties changes, in words, and nothing of any other change.
+const changesOf = rows.map((row) => (row.firstElementChild?.className === \"changed\" ? row.firstElementChild.textContent : \"\"));
 
 // The bars around the document and the list: what a reviewer presses and types in, and what they are told.
 
@@ -739,7 +743,7 @@ function describe(place) {
 
 function wordsOfChange(at) {
   const { date } = rows[at].dataset;
-  const kind = KINDS[kindsOf[at]];
+  const kind = KINDS[kindsOf[at]] + (changesOf[at] && \" (\" + spelled(changesOf[at]) + \")\");
   return \"Change \" + (at + 1) + \": \" + kind + \" by \" + spelled(authorsOf[at] || \"no name\") + (date === \"-\" ? \"\" : \", \" + date.slice(0, 10));
 }
 
@@ -1548,11 +1552,24 @@ function counted(values) {
 
 function offerFilters() {
   offer(authors, [\"Author\", counted(authorsOf).map(([it, count]) => [\"=\" + it, (spelled(it) || \"no name\") + \" (\" + count + \")\"])]);
-  offer(kinds, [\"Kind\", counted(kindsOf).map(([it, count]) => [it, KINDS[it] + \" (\" + count + \")\"])]);
+  offer(kinds, [\"Kind\", counted(kindsOf).map(([it, count]) => [it, KINDS[it] + \" (\" + count + \")\"])], ...formats());
   offer(states,
     [\"By you\", [[\"s:\", \"not decided\"], ...Object.keys(DONE).map((it) => [\"s:\" + it, DONE[it]])]],
     [\"By others\", [[\"differ\", \"differ from you\"]]],
     [\"In the journals\", [[\"v:open\", \"open\"], [\"v:accept\", \"accepted\"], [\"v:reject\", \"rejected\"], [\"v:disputed\", \"disputed\"]]]);
+}
+
+// Changes of format that are of language only, and the others, where there are both.
+function formats() {
+  const changes = changesOf.filter((it) => it);
+  const languages = changes.filter((it) => it === LANGUAGE).length;
+  if (!languages || languages === changes.length) return [];
+  return [[\"Format\", [[\"f:other\", \"not only language (\" + (changes.length - languages) + \")\"], [\"f:language\", LANGUAGE + \" (\" + languages + \")\"]]]];
+}
+
+function isOfKind(at, kind) {
+  if (kind === \"f:language\") return changesOf[at] === LANGUAGE;
+  return kind === \"f:other\" ? changesOf[at] !== \"\" && changesOf[at] !== LANGUAGE : kind === kindsOf[at];
 }
 
 // Whether the row at a place is one that the filter leaves, by what is chosen and typed now.
@@ -1561,7 +1578,7 @@ function matcher() {
   const sought = plainText(search.value).trim();
   const hasState = (at) => (state === \"differ\" ? differs(at) :
     state.startsWith(\"s:\") ? state === \"s:\" + words[at] : state === \"v:\" + verdictsOf[at]);
-  return (at) => (!author || author === \"=\" + authorsOf[at]) && (!kind || kind === kindsOf[at]) &&
+  return (at) => (!author || author === \"=\" + authorsOf[at]) && (!kind || isOfKind(at, kind)) &&
     (!state || hasState(at)) && (!sought || sought === String(at + 1) || searchText(at).includes(sought));
 }
 
@@ -1596,7 +1613,7 @@ function recount() {
   acceptAll.disabled = rejectAll.disabled = count === 0;
 }
 
-// The text in which a change is searched: its kind, its author, who spoke of it, and the paragraph or row that it stands in.
+// The text in which a change is searched: its kind, what it changes, its author, who spoke of it, and the paragraph or row that it stands in.
 
 const searchTexts = [];
 const blockTexts = new Map();
@@ -1609,7 +1626,7 @@ function searchText(at) {
   if (searchTexts[at] === undefined) {
     const blocks = new Set(placesOf(rows[at]).map(blockOf).filter((it) => it));
     const said = saysOn(at).map((it) => it.who);
-    searchTexts[at] = plainText([KINDS[kindsOf[at]], authorsOf[at], ...said].join(\" \")) + \" \" + Array.from(blocks, textOfBlock).join(\" \");
+    searchTexts[at] = plainText([KINDS[kindsOf[at]], changesOf[at], authorsOf[at], ...said].join(\" \")) + \" \" + Array.from(blocks, textOfBlock).join(\" \");
   }
   return searchTexts[at];
 }

@@ -24,6 +24,6 @@ function describe(place) {
 
 function wordsOfChange(at) {
   const { date } = rows[at].dataset;
-  const kind = KINDS[kindsOf[at]];
+  const kind = KINDS[kindsOf[at]] + (changesOf[at] && " (" + spelled(changesOf[at]) + ")");
   return "Change " + (at + 1) + ": " + kind + " by " + spelled(authorsOf[at] || "no name") + (date === "-" ? "" : ", " + date.slice(0, 10));
 }

@@ -15,11 +15,24 @@ function counted(values) {
 
 function offerFilters() {
   offer(authors, ["Author", counted(authorsOf).map(([it, count]) => ["=" + it, (spelled(it) || "no name") + " (" + count + ")"])]);
-  offer(kinds, ["Kind", counted(kindsOf).map(([it, count]) => [it, KINDS[it] + " (" + count + ")"])]);
+  offer(kinds, ["Kind", counted(kindsOf).map(([it, count]) => [it, KINDS[it] + " (" + count + ")"])], ...formats());
   offer(states,
     ["By you", [["s:", "not decided"], ...Object.keys(DONE).map((it) => ["s:" + it, DONE[it]])]],
     ["By others", [["differ", "differ from you"]]],
     ["In the journals", [["v:open", "open"], ["v:accept", "accepted"], ["v:reject", "rejected"], ["v:disputed", "disputed"]]]);
+}
+
+// Changes of format that are of language only, and the others, where there are both.
+function formats() {
+  const changes = changesOf.filter((it) => it);
+  const languages = changes.filter((it) => it === LANGUAGE).length;
+  if (!languages || languages === changes.length) return [];
+  return [["Format", [["f:other", "not only language (" + (changes.length - languages) + ")"], ["f:language", LANGUAGE + " (" + languages + ")"]]]];
+}
+
+function isOfKind(at, kind) {
+  if (kind === "f:language") return changesOf[at] === LANGUAGE;
+  return kind === "f:other" ? changesOf[at] !== "" && changesOf[at] !== LANGUAGE : kind === kindsOf[at];
 }
 
 // Whether the row at a place is one that the filter leaves, by what is chosen and typed now.
@@ -28,7 +41,7 @@ function matcher() {
   const sought = plainText(search.value).trim();
   const hasState = (at) => (state === "differ" ? differs(at) :
     state.startsWith("s:") ? state === "s:" + words[at] : state === "v:" + verdictsOf[at]);
-  return (at) => (!author || author === "=" + authorsOf[at]) && (!kind || kind === kindsOf[at]) &&
+  return (at) => (!author || author === "=" + authorsOf[at]) && (!kind || isOfKind(at, kind)) &&
     (!state || hasState(at)) && (!sought || sought === String(at + 1) || searchText(at).includes(sought));
 }
 
@@ -63,7 +76,7 @@ function recount() {
   acceptAll.disabled = rejectAll.disabled = count === 0;
 }
 
-// The text in which a change is searched: its kind, its author, who spoke of it, and the paragraph or row that it stands in.
+// The text in which a change is searched: its kind, what it changes, its author, who spoke of it, and the paragraph or row that it stands in.
 
 const searchTexts = [];
 const blockTexts = new Map();
@@ -76,7 +89,7 @@ function searchText(at) {
   if (searchTexts[at] === undefined) {
     const blocks = new Set(placesOf(rows[at]).map(blockOf).filter((it) => it));
     const said = saysOn(at).map((it) => it.who);
-    searchTexts[at] = plainText([KINDS[kindsOf[at]], authorsOf[at], ...said].join(" ")) + " " + Array.from(blocks, textOfBlock).join(" ");
+    searchTexts[at] = plainText([KINDS[kindsOf[at]], changesOf[at], authorsOf[at], ...said].join(" ")) + " " + Array.from(blocks, textOfBlock).join(" ");
   }
   return searchTexts[at];
 }

@@ -7,3 +7,5 @@ const KINDS = {
   "table-props": "table formatted", "except-props": "table format of a row changed", "row-props": "row formatted",
   "cell-props": "cell formatted",
 };
+// What the program says of a change of format that a reader doesn't see.
+const LANGUAGE = "language only";
