@@ -1,8 +1,9 @@
 -- Paragraphs by hand: which marks stay.
-use Rattle.std.proofs.Common.{◌≡◌, refl, List, [], ◌∷◌, map, Bool, true, false, codes}
+use Rattle.std.proofs.Common.{◌≡◌, refl, List, [], ◌∷◌, map, Bool, true, false, codes, inl, inr}
 use Rattle.redl_stays_sound.specs.Decided.{decided}
 use Rattle.redl_stays_sound.specs.Kept.{kept_marks, marks}
 use Rattle.redl_stays_sound.specs.Settled.{has_no_role}
+use Rattle.redl_stays_sound.specs.Staying.{HasKept, stands}
 use Rattle.redl_tree.proofs.Model.Build.{content, deleted_run, opened, run, tag_in}
 use Rattle.redl_tree.specs.Decisions.Pass.{pass}
 use Rattle.redl_tree.specs.Model.Nodes.{End, Nodes, Tag, element, no_nodes, ◌⊕◌}
@@ -73,11 +74,14 @@ end_deleted = record (of_w (codes "del")) { kind = Mark Del; rev = 1 }
 abbrev mark_changed : Tag
 mark_changed = record (of_w (codes "rPrChange")) { kind = Change Run; rev = 2 }
 
+abbrev mark_props : Nodes
+mark_props = element (of_w (codes "rPr")) (element end_deleted no_nodes (element mark_changed no_nodes no_nodes)) no_nodes
+
+abbrev para_props : Nodes
+para_props = element (of_w (codes "pPr")) mark_props no_nodes
+
 abbrev paragraph : Nodes
-paragraph =
-    element (of_w (codes "p"))
-    (element (of_w (codes "pPr")) (element (of_w (codes "rPr")) (element end_deleted no_nodes (element mark_changed no_nodes no_nodes)) no_nodes) no_nodes)
-    no_nodes
+paragraph = element (of_w (codes "p")) para_props no_nodes
 
 -- whether the root and what a pass leaves of the paragraph in it have no roles
 abbrev roles_are_gone : List Say → Bool
@@ -91,3 +95,14 @@ row_both_accepted = refl
 
 row_one_open : roles_are_gone (Keep ∷ Accept ∷ []) ≡ false
 row_one_open = refl
+
+-- the paragraph, and the body round it
+abbrev round_props : List Element
+round_props = record { tag = of_w (codes "p"); kids = para_props } ∷ record { tag = of_w (codes "body"); kids = paragraph } ∷ []
+
+-- where the end of the paragraph is open, the change of its mark's properties stands; where it is deleted, the properties do not stand
+row_open_end : HasKept (Keep ∷ Keep ∷ []) (record { tag = of_w (codes "body"); kids = paragraph } ∷ []) paragraph mark_changed
+row_open_end = inl (refl, inr (inl (refl, inr (inl (refl, inr (inr (inl (refl, inl (refl, refl)))))))))
+
+row_cut_end : stands (Accept ∷ Keep ∷ []) round_props (record { tag = of_w (codes "pPr"); kids = mark_props }) ≡ false
+row_cut_end = refl

@@ -1,3 +1,4 @@
 pub mod Kept
 pub mod Decided
 pub mod Settled
+pub mod Staying

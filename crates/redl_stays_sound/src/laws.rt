@@ -4,6 +4,7 @@ ghost use Rattle.std.specs.Prelude.{Bool, List, ℕ};
 ghost use Rattle.redl_stays_sound.specs.Decided.{DecidedGo};
 ghost use Rattle.redl_stays_sound.specs.Kept.{KeptStay};
 ghost use Rattle.redl_stays_sound.specs.Settled.{AllSettle, SettlesAll};
+ghost use Rattle.redl_stays_sound.specs.Staying.{AllKeptStay};
 ghost use Rattle.redl_tree.specs.Revisions.Markers.{Value};
 
 /// After any pass of an indexed package, the content revisions and the markers of paired moves that are left in each story are exactly those
@@ -23,4 +24,10 @@ pub fn decided_marks_go()
 pub fn all_decided_settle()
     ensures indexed { (value : Value) (has_id declares : List ℕ → Bool) → SettlesAll value has_id declares }
     ensures numbered { (value : Value) (has_id declares : List ℕ → Bool) → AllSettle value has_id declares }
+{}
+
+/// After any pass of a sound, indexed package each member of a revision and each marker with the say Keep is still in its story, with its tag,
+/// also in properties, unless what is around it goes, or it stands in the properties of a paragraph whose end goes.
+pub fn kept_members_stay()
+    ensures { (value : Value) (has_id declares : List ℕ → Bool) → AllKeptStay value has_id declares }
 {}

@@ -46,7 +46,7 @@ calm-role old new tag kids below shut none calm = no-role new tag kids (record {
   change = no-prop new (prop_of tag) none;
 })
 
-shut-more : (tag : Tag) (ancestors : List Tag) → is_open ancestors ≡ false → is_open (tag ∷ ancestors) ≡ false
+pub shut-more : (tag : Tag) (ancestors : List Tag) → is_open ancestors ≡ false → is_open (tag ∷ ancestors) ≡ false
 shut-more tag ancestors e = false_from_ne_true (is_open (tag ∷ ancestors)) (λ o. true≢false (sym (open_tail tag ancestors o) ∙ e))
 
 -- below such an element each one is calm

@@ -30,7 +30,7 @@ change-none ancestors (Some prop) e = rw e refl
 first-none : (a b c d e : Option Kind) → a ≡ None → b ≡ None → c ≡ None → d ≡ None → e ≡ None → first_role (a ∷ b ∷ c ∷ d ∷ e ∷ []) ≡ Plain
 first-none a b c d e p q r s t = rw (p, q, r, s, t) refl
 
-plain-here : (ancestors : List Tag) (tag : Tag) → IsPlaceless ancestors tag → role ancestors tag ≡ Plain
+pub plain-here : (ancestors : List Tag) (tag : Tag) → IsPlaceless ancestors tag → role ancestors tag ≡ Plain
 plain-here ancestors tag none =
     first-none _ _ _ _ _
     (placed-none Content (is_open ancestors) (trace_of tag) none.content)
