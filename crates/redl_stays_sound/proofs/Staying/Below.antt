@@ -1,4 +1,4 @@
--- Where no element is a member of a revision: in members and changes in properties, and in properties that are none of a mark, a row or a cell.
+-- Where no element is a member of a revision: below members and changes in properties, and in other properties than those of a mark, a row or a cell.
 use Rattle.std.proofs.Common.{◌≡◌, List, [], ◌∷◌, Bool, true, false, ◌||◌, not, inl, inr, Option, Some, None, is_some, refl, sym, ap, ◌∙◌, true≢false}
 use Rattle.std.proofs.lemmas.Bool.{and_left, and_parts, and_right}
 use Rattle.redl_laws.proofs.Soundness.Ancestors.{at_props}
