@@ -2,7 +2,9 @@
 import os
 import time
 
-from page_seen import ENTER, IS_OWN, LOCK, REDLINE, REVIEWERS, Seen, call, example, page, page_of, reading, same, told, wait, written
+from page_seen import (
+    ENTER, IS_OWN, LOCK, REDLINE, REVIEWERS, Seen, call, example, in_package, page, page_of, reading, same, told, wait, written,
+)
 
 SHOWN_ROWS = "return [...document.querySelectorAll('aside > ol > li:not([hidden])')].map((it) => Number(it.id.slice(9)))"
 DOWN = (
@@ -125,6 +127,38 @@ def searches(driven):
     told("nothing is decided by a filter that wasn't seen", seen.words() == {} and "press again" in seen.line(), seen.line())
     seen.pick("#search", "")
     same("all again", len(seen.run(SHOWN_ROWS)), 49)
+
+
+# A run that is made hidden, one of which the language alone changes, one whose lists agree, and an insertion.
+FORMATS = "".join("<w:p>%s</w:p>" % it for it in [
+    '<w:r><w:rPr><w:vanish/><w:rPrChange w:author="Ann"><w:rPr/></w:rPrChange></w:rPr><w:t>secret</w:t></w:r>',
+    '<w:r><w:rPr><w:lang w:val="de-DE"/><w:rPrChange w:author="Ann"><w:rPr/></w:rPrChange></w:rPr><w:t>Recht</w:t></w:r>',
+    '<w:r><w:rPr><w:b/><w:rPrChange w:author="Ann"><w:rPr><w:b w:val="1"/></w:rPr></w:rPrChange></w:rPr><w:t>bold</w:t></w:r>',
+    '<w:ins w:author="Ann"><w:r><w:t>hiding</w:t></w:r></w:ins>',
+])
+SAID = "return [...document.querySelectorAll('aside > ol > li')].map((it) => it.querySelector('.changed')?.textContent ?? null)"
+
+
+def says_formats(driven):
+    """A change of format says what it changes, is found by that, and changes of language only can be left out."""
+    file = os.path.join(driven.folder, "formats.xml")
+    with open(file, "w", newline="", encoding="utf-8") as out:
+        out.write(in_package(FORMATS))
+    seen = Seen(driven, page_of(file))
+    same("each change of format says what it changes", seen.run(SAID), ["hidden: not set \u2192 on", "language only", "no property differs", None])
+    heard = seen.run("return [0, 3].map(wordsOfChange)")
+    told("a screen reader hears it too", "(hidden: not set \u2192 on)" in heard[0] and "(" not in heard[1], str(heard))
+    for text, wanted in [("hidden", [1]), ("not set", [1]), ("no property", [3]), ("", [1, 2, 3, 4])]:
+        seen.pick("#search", text)
+        same("formats searched for " + (text or "nothing"), seen.run(SHOWN_ROWS), wanted)
+    for kind, wanted in [("f:other", [1, 3]), ("f:language", [2]), ("run-props", [1, 2, 3]), ("ins", [4])]:
+        seen.pick("#kind", kind)
+        same("formats of the kind " + kind, seen.run(SHOWN_ROWS), wanted)
+    seen.pick("#kind", "f:language")
+    driven.click("#accept-all")
+    same("those of language only are decided at once", seen.words(), {2: "accept"})
+    seen = Seen(driven, page_of("contract.xml"))
+    same("without a change of language only there is no filter for it", seen.run("return document.querySelector('#kind option[value^=\"f:\"]') === null"), True)
 
 
 NEAR = [("another case", "ann gray"), ("two spaces", "Ann  Gray"), ("a no-break space", "Ann\u00a0Gray"), ("a zero-width space", "Ann\u200b Gray")]
@@ -275,4 +309,4 @@ def keeps_policy(driven):
     same("no complaint", [it for it in driven.complaints() if "trusted" not in it.lower()], [])
 
 
-CASES = [many_at_once, undoes, goes_on, holds_keys, searches, asks_about_names, keeps_controls_in_names, sums_up, names_files, ranked, in_a_frame, prints, keeps_policy]
+CASES = [many_at_once, undoes, goes_on, holds_keys, searches, says_formats, asks_about_names, keeps_controls_in_names, sums_up, names_files, ranked, in_a_frame, prints, keeps_policy]
