@@ -80,11 +80,13 @@ def pass_on(lines, call, of_back=False):
 def refusal(program, given, call):
     """The status with which the program refuses the first document or a journal, or the second document; else 0."""
     items = [item for journal in given.journals for item in ("--journal", journal)]
+    other = program.begin("check", given.back)
     status, _, lines = program.answer("decide", given.document, given.reviewer, *items, *NOTHING)
+    other = program.end(other)
     if status not in (WRITTEN, WITH_LINES):
         pass_on(lines, call)
         return status
-    status, _, lines = program.answer("check", given.back)
+    status, _, lines = other
     if status:
         pass_on(lines, call, of_back=True)
     return status

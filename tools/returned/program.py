@@ -47,10 +47,20 @@ class Program:
         self.handles.remove(handle)
         os.close(handle)
 
+    def begin(self, *words):
+        """A call that goes on beside what comes next, until `end` asks for its answer."""
+        pipes = {"stdin": subprocess.DEVNULL, "stdout": subprocess.PIPE, "stderr": subprocess.PIPE}
+        return subprocess.Popen([self.path, *words], pass_fds=self.handles, **pipes)
+
+    @staticmethod
+    def end(call):
+        """Status, output and lines of a call that was begun."""
+        output, lines = call.communicate()
+        return (128 - call.returncode if call.returncode < 0 else call.returncode), output, lines
+
     def answer(self, *words):
         """Status, output and lines of a call."""
-        done = subprocess.run([self.path, *words], stdin=subprocess.DEVNULL, capture_output=True, pass_fds=self.handles, check=False)
-        return (128 - done.returncode if done.returncode < 0 else done.returncode), done.stdout, done.stderr
+        return self.end(self.begin(*words))
 
     def made(self, *words):
         """The output of a call that succeeds."""
