@@ -175,7 +175,7 @@ def with_headers(package, pick, plain=False):
     for one in parts:
         place = pick.choice([package.index(b"<pkg:part"), package.rindex(b"</pkg:package>")])
         package = package[:place] + one + package[place:]
-    return package.replace(b"</w:body>", b"<w:p><w:pPr><w:sectPr>%s</w:sectPr></w:pPr></w:p></w:body>" % references, 1)
+    return package.replace(b"<w:body>", b"<w:body><w:p><w:pPr><w:sectPr>%s</w:sectPr></w:pPr></w:p>" % references, 1)
 
 
 TAG = re.compile(rb"<[^<>]*>")

@@ -69,7 +69,7 @@ def some_words(count, draw):
 
 
 def read_the_same(program, one, other):
-    """Whether two packages have the same bare text, but for the order of two marks with one sign, and of headers without text.
+    """Whether two packages have the same bare text, but for the order of two marks with one sign.
 
     (Such marks come in the order of the bytes of their names, and a name may be written with references or without.)
     """
@@ -77,7 +77,7 @@ def read_the_same(program, one, other):
     for data in (one, other):
         found = bare.stories_of(program.bare_text(data)).items()
         texts = {kind: [[marks_sorted(line) for line in story.text.split("\n")] for story in stories] for kind, stories in found}
-        kept.append({kind: sorted(found) if kind in ("header", "footer") else found for kind, found in texts.items()})
+        kept.append(texts)
     return kept[0] == kept[1]
 
 
