@@ -144,6 +144,16 @@ def other_forms(driven):
     same("the package of the same", saved, unpacked(os.path.join(driven.folder, "contract.accepted.docm"), driven.folder))
 
 
+def formats(driven):
+    """What a change of format changes stands with it, as the example's listing has it."""
+    it = Desk(driven)
+    it.drop(("contract.xml", example("contract.xml")))
+    it.step("standing")
+    rows = it.run("return [...document.querySelectorAll('#tables tbody tr')].map((row) => [Number(row.cells[0].textContent), [...row.querySelectorAll('.changed li')].map((it) => it.textContent)])")
+    listed = json.loads(example("contract.list.full"))
+    same("what each change of format changes", [row for row in rows if row[1]], [[one["number"], [it["said"] for it in one["changed"]]] for one in listed if one["changed"]])
+
+
 def remains(driven):
     """What else is in the document is shown as it would be saved, before it is; and marks that nobody decides are told at once."""
     it = Desk(driven)
@@ -295,4 +305,4 @@ def sent_along(driven):
     same("which are those", [it.text("#name"), it.text("#count"), it.text("#others-badge")], ["contract.xml", "49 changes", "1"])
 
 
-CASES = [package_round, docx_round, example_at_hand, other_forms, remains, locked_and_gone, unused_notes, kept_at_the_desk, locks_and_ranks, second_sitting] + [sent_along] * bool(REDLINE)
+CASES = [package_round, docx_round, example_at_hand, other_forms, formats, remains, locked_and_gone, unused_notes, kept_at_the_desk, locks_and_ranks, second_sitting] + [sent_along] * bool(REDLINE)

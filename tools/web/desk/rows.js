@@ -56,14 +56,24 @@ const wordsAfter = (/** @type {string} */ text) => (isCut(text) ? text.replace(/
 const SIGNS = { "mark": "\u00b6", "row": "row", "cell": "cell" };
 
 /**
+ * What a change of format changes, a line for each property.
+ * @param {any} row
+ */
+function changedOf({ changed = [], changed_more: more = 0 }) {
+  const lines = [...changed.map((/** @type {any} */ it) => it.said), ...(more ? ["and " + counted(more, "property", "properties") + " more"] : [])];
+  return lines.length ? [make("ul", { className: "changed" }, ...lines.map((textContent) => make("li", {}, make("bdi", { textContent }))))] : [];
+}
+
+/**
  * A change between the words around it.
  * @param {any} row
  */
-function wordsOf({ kind, before, words, after }) {
+function wordsOf(row) {
+  const { kind, before, words, after } = row;
   const name = /ins$|move-to|mark-to/.test(kind) ? "ins" : /del$|move-from|mark-from/.test(kind) ? "del" : "mark";
   const sign = SIGNS[kind.split("-")[0]] ?? KINDS[kind];
   const context = (/** @type {string} */ text) => make("span", { className: "context", textContent: text });
-  return make("td", { className: "words", dir: "auto" }, context(wordsBefore(before)), make(name, { textContent: words.trim() ? words : sign }), context(wordsAfter(after)));
+  return make("td", { className: "words", dir: "auto" }, context(wordsBefore(before)), make(name, { textContent: words.trim() ? words : sign }), context(wordsAfter(after)), ...changedOf(row));
 }
 
 /**
