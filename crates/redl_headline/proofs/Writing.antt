@@ -38,6 +38,8 @@ use Rattle.redl_session.specs.Refusals.{cause_of, refusals, refused}
 use Rattle.redl_session.specs.declared.refusal.AdmitError.{AdmitError}
 use Rattle.redl_session.specs.declared.refusal.Refusal.{Refusal}
 use Rattle.redl_stamp.specs.Attribute.{attribute_value}
+use Rattle.redl_stays_sound.proofs.Decided.{decided_go}
+use Rattle.redl_stays_sound.proofs.Staying.Walk.{kept-stay as members_stay}
 use Rattle.redl_stays_sound.proofs.Stories.{kept_stay}
 use Rattle.redl_tree.proofs.Revisions.NumberLaws.{numbered-indexed}
 use Rattle.redl_tree.specs.Model.Nodes.{Nodes}
@@ -77,6 +79,7 @@ is_writing reader files p locks journals writing is made =
     let entries = both_ok (gathered reader files (document_of file.x read.x) journal_bytes journals) (λ entries. Ok (admission_with (no_admission file.x read.x locks) entries)) opens.x read.second in
     let same : resolved locks (admission_with (no_admission file.x read.x locks) entries.x) ≡ writing = ap (resolved locks) (same_ok entries.second) ∙ same_ok opens.second in
     let says = verdicts read.x locks entries.x in
+    let numbered = numbered_sound attribute_value has_id declares read.x (sound_package reader file.x read.x read.first) in
     record {
       whole = file.x;
       nodes = read.x;
@@ -85,9 +88,10 @@ is_writing reader files p locks journals writing is made =
       journal_files = are_entries reader files file.x read.x journal_bytes journals entries.x is entries.first;
       written = ap (λ (w : Writing). w.bytes) (sym same);
       texts = survival-package attribute_value says (numbered_package read.x) (numbered-indexed attribute_value read.x);
-      sound = soundness attribute_value has_id declares says (numbered_package read.x)
-          (numbered_sound attribute_value has_id declares read.x (sound_package reader file.x read.x read.first));
+      sound = soundness attribute_value has_id declares says (numbered_package read.x) numbered;
       marked = kept_stay attribute_value says (numbered_package read.x) (numbered-indexed attribute_value read.x);
+      members = members_stay attribute_value has_id declares says (numbered_package read.x) numbered.indexed numbered.sound;
+      decided = decided_go attribute_value says (numbered_package read.x) numbered.indexed;
       status = ap (λ (w : Writing). (outcome_of (Ok w)).status) (sym same)
           ∙ ap written_status (append-nil (with_refusals [] (refusals (revisions_of read.x) locks entries.x)))
           ∙ same_status (revisions_of read.x) locks entries.x;

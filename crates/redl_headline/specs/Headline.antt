@@ -14,7 +14,9 @@ use Rattle.redl_opc.specs.Shape.{refusal}
 use Rattle.redl_rules.specs.Attributes.{rules}
 use Rattle.redl_session.specs.Refusals.{admitted, refused}
 use Rattle.redl_session.specs.Says.{says_of}
+use Rattle.redl_stays_sound.specs.Decided.{decided as decided_among}
 use Rattle.redl_stays_sound.specs.Kept.{kept_marks, marks}
+use Rattle.redl_stays_sound.specs.Staying.{StayIn}
 use Rattle.redl_tree.specs.Decisions.Packages.{pass_package, stories}
 use Rattle.redl_tree.specs.Decisions.Survivors.{survivors, text_pieces}
 use Rattle.redl_tree.specs.Model.Nodes.{Nodes}
@@ -71,6 +73,12 @@ pub record IsWriting (files : Files) (p : List ℕ) (locks : List Lock) (journal
   -- what stays marked, of content revisions and markers of moves: what is left as it is, in nothing that goes
   pub marked : map marks (stories (pass_package (verdicts nodes locks entries) (numbered_package nodes)))
       ≡ map (kept_marks (verdicts nodes locks entries)) (stories (numbered_package nodes))
+  -- so does each member in properties, at least: one that is left as it is, unless what is around it goes or the end of its paragraph does
+  pub members : StayIn (verdicts nodes locks entries) (stories (numbered_package nodes))
+      (stories (pass_package (verdicts nodes locks entries) (numbered_package nodes)))
+  -- and no member or marker of a revision that is decided
+  pub decided : map (decided_among (verdicts nodes locks entries)) (stories (pass_package (verdicts nodes locks entries) (numbered_package nodes)))
+      ≡ map (λ _. []) (stories (numbered_package nodes))
   -- an entry is refused where it is on a revision that is held or not there
   pub status : ended ≡ status_of (refused (revisions_of nodes) locks entries)
 
