@@ -8,15 +8,18 @@ use Rattle.redl_tree.specs.Revisions.Labels.{unlabelled_tag, unlabelled}
 use Rattle.redl_tree.specs.Revisions.Markers.{marker_of, move_of, whole_role}
 use Rattle.redl_tree.specs.Revisions.Moves.{Marking, pairs}
 use Rattle.redl_tree.specs.Revisions.Numbers.{labelled_story, next_after_story, number_rule}
-use Rattle.redl_tree.proofs.Revisions.NumberLaws.{bare_seen, seen-bare, marker_of-bare, markers-bare, move_of-bare, whole_role-bare, unlabelled-story, unlabelled-numbered, story_next-bare, stories-numbered}
+use Rattle.redl_tree.proofs.Revisions.NumberLaws.{bare_seen, seen-bare, marker_of-bare, markers-bare, move_of-bare, whole_role-bare, unlabelled-story, unlabelled-numbered, story_next-bare, stories-numbered, numbered-indexed, broken-numbered}
+use Rattle.redl_index.proofs.RootLaws.{roots-numbered}
 use Rattle.redl_opc.specs.Elements.{Element}
 use Rattle.redl_opc.specs.Shape.{elements_in, parts_of, package_of, story_of}
 use Rattle.redl_opc.proofs.LabelLaws.{plain, elements-unlabelled, package_of-unlabelled, story_of-plain}
 use Rattle.redl_stamp.specs.Attribute.{attribute_value}
+use Rattle.redl_rules.specs.Attributes.{broken_rule, declares, has_id}
 use Rattle.redl_moves.specs.Starts.{start_in}
 use Rattle.redl_index.specs.Markers.Found.{markers_of, marker_tail, marker_tails}
 use Rattle.redl_index.specs.Mentions.{Sight, sight_by, sight_in, mentions}
 use Rattle.redl_index.specs.Numbers.{package_revisions, numbered_package}
+use Rattle.redl_index.specs.Numbered.{IsNumberedFrom}
 use Rattle.redl_index.specs.Revisions.{firsts, revision_of, story_revisions, revisions_in, revisions_from, numbered, revisions_of}
 
 -- ---- the mentions in a story
@@ -106,3 +109,13 @@ all-again next first (story ∷ later) =
 pub count-numbered : (nodes : Nodes) → package_revisions (numbered_package nodes) ≡ package_revisions nodes
 count-numbered nodes =
     ap (left_after (number_rule attribute_value) 0) (stories-numbered attribute_value nodes) ∙ all-again 0 1 (stories nodes)
+
+-- ---- what a numbered package is
+
+pub numbered-from : (nodes made : Nodes) → made ≡ numbered_package nodes → IsNumberedFrom nodes made
+numbered-from nodes made is = record {
+  again = rw is (numbered-indexed attribute_value nodes);
+  revisions = ap revisions_of is ∙ revisions-numbered nodes;
+  rule = ap broken_rule is ∙ broken-numbered attribute_value has_id declares nodes;
+  plain = λ bare. rw is (roots-numbered attribute_value nodes bare);
+}

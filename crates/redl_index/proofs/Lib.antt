@@ -16,6 +16,7 @@ pub mod SurveyLaws
 pub mod ToLabelLaws
 pub mod RevisionLaws
 pub mod PartLaws
+pub mod RootLaws
 pub mod AgainLaws
 mod Rows
 mod RevisionRows

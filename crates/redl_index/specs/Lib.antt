@@ -2,6 +2,7 @@ pub mod Numbers
 pub mod Kinds
 pub mod Mentions
 pub mod Revisions
+pub mod Numbered
 pub mod Markers
 pub mod StoryFacts
 pub mod ToLabel

@@ -7,6 +7,7 @@ ghost use Rattle.redl_tree.specs.Model.Text.{text};
 ghost use Rattle.redl_opc.specs.Shape.{refusal};
 ghost use Rattle.redl_index.specs.StoryFacts.{facts_of, facts_in};
 ghost use Rattle.redl_index.specs.Numbers.{numbered_package, package_revisions};
+ghost use Rattle.redl_index.specs.Numbered.{IsNumberedFrom};
 ghost use Rattle.redl_index.specs.Revisions.{AreNumbered, IsInStory, IsListable, revisions_of};
 ghost use Rattle.redl_index.specs.Inside.Tallies.{mentioned_again, replaced};
 
@@ -78,6 +79,7 @@ impl Index {
         ensures count { IfOk result (λ index. length index ≡ package_revisions pkg.old) }
         ensures stories { IfOk result (λ index. All (IsInStory pkg.new) index) }
         ensures nodes { OnOk result (pkg.new ≡ numbered_package pkg.old) }
+        ensures ready { OnOk result (IsNumberedFrom pkg.old pkg.new) }
         ensures text { OnOk result (text pkg.new ≡ text pkg.old) }
         ensures unchanged { OnErr result (pkg.new ≡ pkg.old) }
     {
@@ -98,6 +100,7 @@ impl Index {
         ensures count { IfOk result (λ index. length index ≡ package_revisions pkg.old) }
         ensures stories { IfOk result (λ index. All (IsInStory pkg.new) index) }
         ensures nodes { OnOk result (pkg.new ≡ numbered_package pkg.old) }
+        ensures ready { OnOk result (IsNumberedFrom pkg.old pkg.new) }
         ensures text { OnOk result (text pkg.new ≡ text pkg.old) }
         ensures unchanged { OnErr result (pkg.new ≡ pkg.old) }
     {

@@ -10,6 +10,7 @@ ghost use Rattle.redl_opc.specs.Shape.{refusal};
 ghost use Rattle.redl_stamp.specs.Attribute.{attribute_value};
 ghost use Rattle.redl_index.specs.StoryFacts.{facts_of, facts_in, element_by};
 ghost use Rattle.redl_index.specs.Numbers.{numbered_package, package_revisions};
+ghost use Rattle.redl_index.specs.Numbered.{IsNumberedFrom};
 
 use crate::numbers::Numbers;
 use crate::story::Sight;
@@ -29,6 +30,7 @@ use std::mem;
 pub fn number(alloc: Global, pkg: &mut Package) -> Result<u32, AllocError>
     ensures count { IfOk result (λ count. count ≡ package_revisions pkg.old) }
     ensures nodes { OnOk result (pkg.new ≡ numbered_package pkg.old) }
+    ensures ready { OnOk result (IsNumberedFrom pkg.old pkg.new) }
     ensures text { OnOk result (text pkg.new ≡ text pkg.old) }
     ensures unchanged { OnErr result (pkg.new ≡ pkg.old) }
 {
@@ -43,6 +45,7 @@ pub(crate) fn label_stories(pkg: &mut Package, known: Vec<StoryFacts>) -> u32
     requires few { count pkg.old < 2 ^ 32 }
     ensures count { result ≡ package_revisions pkg.old }
     ensures nodes { pkg.new ≡ numbered_package pkg.old }
+    ensures ready { IsNumberedFrom pkg.old pkg.new }
     ensures text { text pkg.new ≡ text pkg.old }
 {
     let mut left = ToLabel {

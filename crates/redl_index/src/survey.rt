@@ -10,6 +10,7 @@ ghost use Rattle.redl_rules.specs.Attributes.{broken_rule as broken_rule_of};
 ghost use Rattle.redl_rules.specs.Keeping.{element_kept, kept_among};
 ghost use Rattle.redl_index.specs.StoryFacts.{facts_of, facts_in, element_by};
 ghost use Rattle.redl_index.specs.Numbers.{numbered_package, package_revisions};
+ghost use Rattle.redl_index.specs.Numbered.{IsNumberedFrom};
 ghost use Rattle.redl_index.specs.Revisions.{IsInStory, revisions_of};
 
 use crate::index::Index;
@@ -97,6 +98,7 @@ impl<'a> Surveyed<'a> {
     /// Numbers the revisions as `Index::build` does, and only counts them. It takes no memory, and reads no author and no date.
     pub fn into_counted(self) -> Counted<'a>
         ensures nodes { result.pkg ≡ numbered_package self.entry }
+        ensures ready { IsNumberedFrom self.entry result.pkg }
         ensures count { result.count ≡ package_revisions self.entry }
         ensures text { text result.pkg ≡ text self.entry }
     {
@@ -108,6 +110,7 @@ impl<'a> Surveyed<'a> {
     /// Numbers the revisions as `Index::build` does. `Err` means out of memory, and drops the package.
     pub fn into_numbered(self, alloc: Global) -> Result<Numbered<'a>, AllocError>
         ensures nodes { IfOk result (λ made. made.pkg ≡ numbered_package self.entry) }
+        ensures ready { IfOk result (λ made. IsNumberedFrom self.entry made.pkg) }
         ensures index { IfOk result (λ made. made.index ≡ revisions_of self.entry) }
         ensures count { IfOk result (λ made. length made.index ≡ package_revisions self.entry) }
         ensures stories { IfOk result (λ made. All (IsInStory made.pkg) made.index) }

@@ -3,7 +3,7 @@ use Rattle.std.proofs.Common.{◌≡◌, List, [], ℕ, true}
 use Rattle.redl_editor.specs.Documents.{IsNumbered}
 use Rattle.redl_index.specs.Numbers.{numbered_package}
 use Rattle.redl_stamp.specs.Attribute.{attribute_value}
-use Rattle.redl_laws.proofs.Leaves.Packages.{roots-numbered}
+use Rattle.redl_index.proofs.RootLaws.{roots-numbered}
 use Rattle.redl_tree.proofs.Revisions.NumberLaws.{numbered-indexed}
 use Rattle.redl_tree.specs.Decisions.Packages.{roots_are_plain}
 use Rattle.redl_tree.specs.Model.Nodes.{Nodes}

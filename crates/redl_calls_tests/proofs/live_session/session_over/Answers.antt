@@ -3,7 +3,7 @@ use Rattle.redl_index.specs.Numbers.{numbered_package}
 use Rattle.redl_rules.specs.Attributes.{broken_rule}
 use Rattle.redl_calls_tests.proofs.Starts.{numbered_again, revisions_again, rules_again, unbroken}
 use Rattle.redl_stamp.specs.Attribute.{attribute_value}
-use Rattle.redl_laws.proofs.Leaves.Packages.{roots-numbered}
+use Rattle.redl_index.proofs.RootLaws.{roots-numbered}
 use Rattle.redl_tree.specs.Model.View.{nodes_of}
 use Rattle.redl_xml.proofs.Unlabelled.{reading-unlabelled}
 use Rattle.redl_calls_tests.proofs.live_session.session_over.Goals as goal

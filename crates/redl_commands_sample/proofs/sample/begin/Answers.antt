@@ -3,8 +3,8 @@ use Rattle.redl_index.proofs.AgainLaws.{revisions-numbered}
 use Rattle.redl_index.specs.Revisions.{revisions_of}
 use Rattle.redl_rules.specs.Attributes.{has_id, declares, broken_rule}
 use Rattle.redl_stamp.specs.Attribute.{attribute_value}
-use Rattle.redl_laws.proofs.Leaves.Packages.{roots-numbered}
 use Rattle.redl_tree.proofs.Revisions.NumberLaws.{numbered-indexed, broken-numbered}
+use Rattle.redl_index.proofs.RootLaws.{roots-numbered}
 use Rattle.redl_commands_sample.proofs.sample.begin.Goals as goal
 
 pub start-requires : goal.start-requires

@@ -3,6 +3,7 @@ use Rattle.redl_tree.specs.Decisions.Packages.{stories}
 use Rattle.redl_index.specs.StoryFacts.{facts_of}
 use Rattle.redl_index.specs.Numbers.{package_revisions}
 use Rattle.redl_index.specs.ToLabel.{Left}
+use Rattle.redl_index.proofs.AgainLaws.{numbered-from}
 use Rattle.redl_index.proofs.RevisionLaws.{next-revisions}
 use Rattle.redl_index.proofs.ToLabelLaws.{sets-labels, labelled-numbered, next-left, takes-stories}
 use Rattle.redl_index.proofs.label.label_stories.Goals as goal
@@ -32,3 +33,8 @@ returns-clause-count c =
 pub returns-clause-nodes : goal.returns-clause-nodes
 returns-clause-nodes c =
     c.change_labels.ensures.nodes ∙ labelled-numbered (record { next = 1; stories = map facts_of c.args.known.items }) c.args.pkg.now refl
+
+pub returns-clause-ready : goal.returns-clause-ready
+returns-clause-ready c =
+    numbered-from c.args.pkg.now _
+    (c.change_labels.ensures.nodes ∙ labelled-numbered (record { next = 1; stories = map facts_of c.args.known.items }) c.args.pkg.now refl)
