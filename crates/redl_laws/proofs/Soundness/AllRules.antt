@@ -20,7 +20,7 @@ use Rattle.redl_tree.proofs.Model.Build.{one}
 use Rattle.redl_tree.proofs.Roles.Named.{by_names}
 use Rattle.redl_tree.proofs.Roles.Fits.{AllFit, true_false, open_∷, open_none_rejected}
 use Rattle.redl_laws.proofs.Soundness.AlikeTags.{Own, like_self}
-use Rattle.redl_laws.proofs.Soundness.Ancestors.{Came, top, kept, past_content, among-past, past_open, blocks_open, kid_3, free3, content_role, implies_from, implies_of, not_of, not_to}
+use Rattle.redl_laws.proofs.Soundness.Ancestors.{Came, top, kept, Free3, past_content, among-past, past_open, blocks_open, kid_3, free3, content_role, implies_from, implies_of, not_of, not_to}
 use Rattle.redl_laws.proofs.Survival.Indexed.{AreStories, indexed_stories, stories-pass, passed}
 use Rattle.redl_laws.proofs.Soundness.Walk.{Holds, Ground, Kept, walked, settled_kept, everywhere-one}
 use Rattle.redl_laws.proofs.Soundness.Rules.{kept_3, kept_7, kept_8, kept_9}
@@ -231,6 +231,17 @@ nine has_id declares nodes e =
     let j = and_parts (holds (test_9 declares) (stories nodes)) _ i.1 in
     record { rule_1 = a.0; rule_2 = b.0; rule_3 = c.0; rule_4 = d.0; rule_5 = f.0; rule_6 = g.0; rule_7 = h.0; rule_8 = i.0; rule_9 = j.0 }
 
+-- what the rules say of the roots of stories and of what is below them
+abbrev pub AreGrounded : List Element → Type 0
+AreGrounded [] = Unit {0}
+AreGrounded (story ∷ rest) = Free3 [] story.tag × Ground test_8 (story.tag ∷ []) story.kids × AreGrounded rest
+
+grounded : (xs : List Element) → AreStories xs → AllSound test_8 xs → AreGrounded xs
+grounded [] h r = tt
+grounded (x ∷ xs) h r =
+    let t = three test_8 [] x.tag x.kids no_nodes r.0 in
+    (free3 [] x.tag x.kids t.own.rule_3, ground test_8 (x.tag ∷ []) x.kids h.0.fits t.below, grounded xs h.1 r.1)
+
 -- a sound, indexed package
 pub record IsSoundPackage (value : Value) (has_id declares : List ℕ → Bool) (nodes : Nodes) : Type 0 where
   pub indexed : IsIndexed value nodes
@@ -249,6 +260,12 @@ module _ (value : Value) (has_id declares : List ℕ → Bool) (says : List Say)
   eight ext e =
       let n = nine has_id declares nodes p.sound in
       record { rule_1 = n.rule_1; rule_2 = n.rule_2; rule_3 = kids_hold (stories nodes) n.rule_3; rule_4 = n.rule_4; rule_5 = n.rule_5; rule_6 = n.rule_6; rule_8 = n.rule_8; own = e }
+
+  -- what the rules say of each story's root and of what is below it
+  pub all-grounded : AreGrounded (stories nodes)
+  all-grounded =
+      grounded (stories nodes) (indexed_stories value nodes p.indexed)
+      (all_sound test_8 (stories nodes) (eight test_8 (nine has_id declares nodes p.sound).rule_8))
 
   again_by : (ext test : Test) → holds ext (stories nodes) ≡ true → Kept ext says test → holds test (stories (pass_package says nodes)) ≡ true
   again_by ext test e k =
