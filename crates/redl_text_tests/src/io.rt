@@ -1,8 +1,8 @@
 //! What no clause says: that calls succeed with ample memory, and what the system's own files and streams do.
 
 use redl_io::{
-    Failed, FileShelf, MemShelf, MemSink, Shelf, Sink, Staged, StdSink, SureShelf, Text, put_piece,
-    put_pieces, put_text,
+    Failed, FileShelf, MemShelf, MemSink, Shelf, Sink, Staged, StdSink, Stream, SureShelf, Text,
+    put_piece, put_pieces, put_text,
 };
 use std::alloc::{AllocError, Global};
 use std::io::{ErrorKind, Write};
@@ -334,6 +334,10 @@ impl Write for Slow {
     }
 }
 
+impl Stream for Slow {
+    ghost steady = { λ _ _ known. known };
+}
+
 fn put_slowly(stream: Slow, piece: &str) -> Result<(), Failed> {
     StdSink::new(stream).put(piece.as_bytes())
 }
@@ -359,4 +363,13 @@ fn a_stream_gets_all_or_fails_where_it_stops(rt: HostRuntime) {
         let got = put_slowly(stream, piece);
         assert!(rt; got == want, "{piece} at {step} with room {room}: {got:?}");
     }
+}
+
+#[test]
+fn a_vector_has_what_was_put(rt: HostRuntime) -> Result<(), Fail> {
+    let mut sink = StdSink::new(Vec::new(rt.alloc()));
+    assert_eq!(rt; sink.put(b"abc"), Ok(()));
+    assert_eq!(rt; sink.put(b"de"), Ok(()));
+    assert_eq!(rt; sink.into_stream().as_slice(), b"abcde".as_slice());
+    Ok(())
 }
