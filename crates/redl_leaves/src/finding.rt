@@ -7,6 +7,7 @@ ghost use Rattle.redl_tree.specs.Leaves.Present.{pass_leaf};
 ghost use Rattle.redl_tree.specs.Leaves.Slots.{Leaf as LeafModel};
 ghost use Rattle.redl_tree.specs.Leaves.States.{slots_of};
 ghost use Rattle.redl_tree.specs.Leaves.Ways.{leaf_at};
+ghost use Rattle.redl_tree.specs.Model.Count.{count};
 ghost use Rattle.redl_tree.specs.Model.View.{nodes_of};
 
 use crate::slots::{Container, Leaf, Slot};
@@ -47,7 +48,7 @@ fn find_below<'s, 'a>(container: &'s Container<'a>, way: &[u32]) -> Option<&'s L
 }
 
 /// The pass of the leaf at the end of a way, under these says. It counts at most a step for each of its nodes, also with an
-/// error. `Err` means out of memory.
+/// error, and at least one for each node of the result. `Err` means out of memory.
 pub fn make_leaf<'a, L: Ledger>(
     alloc: Global,
     slots: &[Slot<'a>],
@@ -58,6 +59,7 @@ pub fn make_leaf<'a, L: Ledger>(
     ensures made { IfOk result (λ made. (leaf : LeafModel) → leaf_at way.now (slots_of (states_of slots.now)) ≡ Some leaf
         → nodes_of made.items ≡ pass_leaf says.now leaf) }
     ensures steps { steps.new ≤ steps.old + size_at (leaf_at way.now (slots_of (states_of slots.now))) }
+    ensures counted { IfOk result (λ made. steps.old + count (nodes_of made.items) ≤ steps.new) }
 {
     match find_leaf(slots, way) {
         Some(leaf) => {
