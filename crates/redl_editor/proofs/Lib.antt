@@ -10,6 +10,8 @@ pub mod BegunLaws
 pub mod FormerLaws
 pub mod KeptLaws
 pub mod CostLaws
+pub mod CountLaws
 pub mod FindLaws
 pub mod WriteLaws
 pub mod DocumentLaws
+pub mod ElsewhereLaws

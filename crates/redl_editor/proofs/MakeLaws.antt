@@ -1,5 +1,6 @@
 -- Leaves that are made one after the other.
-use Rattle.std.proofs.Common.{◌≡◌, ◌<◌, ◌≤◌, ◌+◌, ◌==◌, ℕ, zero, suc, List, [], ◌∷◌, ◌++◌, length, get_or, drop, map, refl, sym, ap, ◌∙◌, arith}
+use Rattle.std.proofs.Common.{◌≡◌, ◌<◌, ◌≤◌, ◌+◌, ◌==◌, ℕ, zero, suc, Vec, List, [], ◌∷◌, ◌++◌, length, get_or, drop, map, refl, sym, ap, ◌∙◌, arith}
+use Rattle.std.specs.Global.{Global}
 use Rattle.std.proofs.lemmas.Bool.{eq-eqb}
 use Rattle.std.proofs.lemmas.List.{drop_more, drop_all, map-append}
 use Rattle.std.proofs.lemmas.List.Folds.{list_any_at}
@@ -7,10 +8,11 @@ use Rattle.std.proofs.lemmas.List.Sums.{sum_by-cons}
 use Rattle.redl_tree.specs.Leaves.Slots.{Slots}
 use Rattle.redl_tree.specs.Leaves.States.{States}
 use Rattle.redl_tree.specs.Leaves.Ways.{leaf_at}
+use Rattle.redl_tree.specs.Model.Count.{count}
 use Rattle.redl_tree.specs.Model.View.{nodes_of}
 use Rattle.redl_tree.specs.declared.kinds.Say.{Say}
 use Rattle.redl_leaves.specs.Finds.{size_at}
-use Rattle.redl_editor.specs.Inside.Makes.{AreWithin, ways_of, sizes_of}
+use Rattle.redl_editor.specs.Inside.Makes.{AreWithin, all_made_count, made_count, ways_of, sizes_of}
 use Rattle.redl_leaves.specs.Puts.{IsMade}
 use Rattle.redl_leaves.specs.Steps.{AreMade, way_of}
 use Rattle.redl_leaves.specs.declared.stepping.Made.{Made}
@@ -62,3 +64,13 @@ pub any-number : (xs : List ℕ) (k d e : ℕ) → k < length xs → get_or xs k
 any-number [] k d e within = absurd (omega (arith, within))
 any-number (x ∷ xs) zero d e within = refl
 any-number (x ∷ xs) (suc k) d e within = any-number xs k d e (omega (arith, within))
+
+-- ---- how many nodes were made
+
+pub made_count-more : (xs : List Made) (one : Made) → made_count (xs ++ one ∷ []) ≡ made_count xs + count (nodes_of one.nodes.items)
+made_count-more [] one = omega arith
+made_count-more (x ∷ xs) one = omega (arith, made_count-more xs one)
+
+pub all_made_count-more : (xs : List (Vec Made Global)) (one : Vec Made Global) → all_made_count (xs ++ one ∷ []) ≡ all_made_count xs + made_count one.items
+all_made_count-more [] one = omega arith
+all_made_count-more (x ∷ xs) one = omega (arith, all_made_count-more xs one)

@@ -6,4 +6,5 @@ pub mod Stories
 pub mod Kept
 pub mod Costs
 pub mod Documents
+pub mod Elsewhere
 pub mod Inside

@@ -3,8 +3,9 @@
 ghost use Rattle.std.specs.Prelude.{◌≡◌, ◌≤◌, ◌+◌, ℕ, List, [], Bool, true, All, length, map, IfOk, OnOk, OnErr, IsOk};
 ghost use Rattle.std.specs.List.Sorted.{IsNonDecreasingBy};
 ghost use Rattle.redl_editor.specs.Changes.{setting_of, is_changed, former_of, differ};
-ghost use Rattle.redl_editor.specs.Costs.{parts_cost};
+ghost use Rattle.redl_editor.specs.Costs.{AreCounted, parts_cost};
 ghost use Rattle.redl_editor.specs.Holdings.{is_touched};
+ghost use Rattle.redl_editor.specs.Inside.Makes.{all_made_count};
 ghost use Rattle.redl_editor.specs.Kept.{AreKept, AreReady, AreUnheld, AreChanges, AreMadeFor};
 ghost use Rattle.redl_tree.specs.Leaves.Settings.{set_each};
 ghost use Rattle.redl_tree.specs.Model.View.{Element};
@@ -40,6 +41,8 @@ pub(crate) fn set_all<'a, L: Ledger>(
     ensures own { former_of says.old (map setting_of changes.now) ≡ [] → IsOk result }
     ensures steps { (parts : List Element) → AreKept says.old parts stories.old tables.now
         → steps.new ≤ steps.old + parts_cost (is_changed says.old (set_each says.old (map setting_of changes.now))) parts }
+    ensures counted { OnOk result ((parts : List Element) → AreUnheld (is_changed says.old says.new) parts
+        → AreKept says.old parts stories.old tables.now → AreCounted (is_changed says.old says.new) says.new steps.old steps.new parts) }
 {
     let former = former_says(alloc, says, changes)?;
     if former.is_empty() {
@@ -73,6 +76,7 @@ fn make_changed<'w, 'a, L: Ledger>(
     ensures steps { (parts : List Element) → (before : List SayModel) → AreKept before parts stories.now tables.now
         → (is_set : ℕ → Bool) → ((rev : ℕ) → differ says.now (map setting_of former.now) rev ≡ true → is_set rev ≡ true)
         → steps.new ≤ steps.old + parts_cost is_set parts }
+    ensures counted { IfOk result (λ all. steps.old + all_made_count all.items ≤ steps.new) }
 {
     let revs = changed(alloc, says, former)?;
     make_stories(alloc, stories, tables, &revs, says, steps)
@@ -95,6 +99,7 @@ fn make_stories<'w, 'a, L: Ledger>(
     ensures steps { (parts : List Element) → (before : List SayModel) → AreKept before parts stories.now tables.now
         → (is_set : ℕ → Bool) → ((rev : ℕ) → is_touched revs.now rev ≡ true → is_set rev ≡ true)
         → steps.new ≤ steps.old + parts_cost is_set parts }
+    ensures counted { IfOk result (λ all. steps.old + all_made_count all.items ≤ steps.new) }
 {
     let mut all = Vec::with_capacity(alloc, stories.len())?;
     for at in 0..stories.len() {

@@ -1,9 +1,10 @@
 //! The editor: a package whose stories are kept leaf by leaf, each as it is under the present says.
 
-ghost use Rattle.std.specs.Prelude.{◌≡◌, ◌<◌, ◌≤◌, ◌+◌, ◌∷◌, [], length, map, replicate, true, IfOk, OnOk, OnErr, IsOk};
+ghost use Rattle.std.specs.Prelude.{◌≡◌, ◌==◌, ◌<◌, ◌≤◌, ◌+◌, ◌∷◌, [], length, map, replicate, true, IfOk, OnOk, OnErr, IsOk};
 ghost use Rattle.redl_editor.specs.Changes.{setting_of, is_changed, former_of};
-ghost use Rattle.redl_editor.specs.Costs.{parts_cost};
+ghost use Rattle.redl_editor.specs.Costs.{AreCounted, parts_cost};
 ghost use Rattle.redl_editor.specs.Documents.{IsNumbered, count_at, present_at};
+ghost use Rattle.redl_editor.specs.Elsewhere.{StaysElsewhere};
 ghost use Rattle.redl_io.specs.Sink.{Puts};
 ghost use Rattle.redl_leaves.specs.Lends.{lent_nodes};
 ghost use Rattle.redl_tree.specs.Decisions.Fates.{say_of};
@@ -108,6 +109,9 @@ impl<'a> Editor<'a> {
         ensures says { OnOk result (self.new ≡ record self.old { says = set_say self.old.says rev say }) }
         ensures untouched { OnErr result (self.new ≡ self.old) }
         ensures own { say_of self.old.says rev ≡ say → IsOk result }
+
+        // A leaf without a member or a marker of the revision stays as it was.
+        ensures elsewhere { OnOk result (StaysElsewhere (λ n. n == rev) self.old self.new) }
     {
         self.set_many(&[Change { rev, say }])
     }
@@ -122,6 +126,9 @@ impl<'a> Editor<'a> {
 
         // Where all of it is said already it takes no memory.
         ensures own { former_of self.old.says (map setting_of changes.now) ≡ [] → IsOk result }
+
+        // A leaf without a member or a marker of a revision of which something else is said then stays as it was.
+        ensures elsewhere { OnOk result (StaysElsewhere (is_changed self.old.says self.new.says) self.old self.new) }
     {
         self.set_many_by::<Brand>(changes, Blank::new(1))
     }
@@ -137,6 +144,7 @@ impl<'a> Editor<'a> {
         ensures untouched { OnErr result (self.new ≡ self.old) }
         ensures own { say_of self.old.says rev ≡ say → IsOk result }
         ensures steps { steps.new ≤ steps.old + parts_cost (is_changed self.old.says (set_say self.old.says rev say)) (stories self.old.nodes) }
+        ensures counted { OnOk result (AreCounted (is_changed self.old.says self.new.says) self.new.says steps.old steps.new (stories self.old.nodes)) }
     {
         self.set_many_counted(&[Change { rev, say }], steps)
     }
@@ -154,6 +162,9 @@ impl<'a> Editor<'a> {
         // At most the sizes of these leaves and the lengths of their paths, also with an error.
         ensures steps { steps.new ≤ steps.old
             + parts_cost (is_changed self.old.says (set_each self.old.says (map setting_of changes.now))) (stories self.old.nodes) }
+
+        // At least as many as each of these leaves has nodes then.
+        ensures counted { OnOk result (AreCounted (is_changed self.old.says self.new.says) self.new.says steps.old steps.new (stories self.old.nodes)) }
     {
         set_all(
             self.alloc,

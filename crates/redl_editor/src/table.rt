@@ -3,6 +3,7 @@
 ghost use Rattle.std.specs.Prelude.{◌≡◌, ◌≤◌, ◌+◌, ◌∷◌, [], ℕ, List, Bool, true, false, map, IfOk};
 ghost use Rattle.std.specs.List.Sorted.{IsNonDecreasingBy};
 ghost use Rattle.redl_editor.specs.Holdings.{is_touched};
+ghost use Rattle.redl_editor.specs.Inside.Makes.{made_count};
 ghost use Rattle.redl_leaves.specs.Steps.{AreMade, CanSet, way_of};
 ghost use Rattle.redl_editor.specs.Kept.{AreTables};
 ghost use Rattle.redl_editor.specs.Tables.{IsTable};
@@ -74,6 +75,7 @@ pub(crate) fn make_touched<'w, 'a, L: Ledger>(
         → SameBut is_set before says.now → is_set 0 ≡ false → ((rev : ℕ) → is_set rev ≡ true → is_touched revs.now rev ≡ true)
         → IsUnheld is_set (slots_in opens (story.tag ∷ []) story.kids)
         → CanSet is_set before says.now story (map way_of all.items) (states_of slots.now)) }
+    ensures counted { IfOk result (λ all. steps.old + made_count all.items ≤ steps.new) }
 {
     let leaves = touched(alloc, &table.held, revs)?;
     let all = make_each(alloc, slots, &table.places, &leaves, says, steps)?;

@@ -3,7 +3,9 @@ use Rattle.std.proofs.Common.{◌<◌, List, Vec, length, get_or, sym, subst, ap
 use Rattle.std.specs.Global.{Global}
 use Rattle.redl_leaves.specs.declared.stepping.Made.{Made}
 use Rattle.redl_editor.proofs.CostLaws.{cost-here}
+use Rattle.redl_editor.proofs.MakeLaws.{all_made_count-more}
 use Rattle.redl_editor.proofs.KeptLaws.{ready-more, kept-here, kept-cost}
+use Rattle.redl_editor.specs.Inside.Makes.{all_made_count}
 use Rattle.redl_editor.specs.Kept.{IsReady, AreReady}
 use Rattle.redl_editor.proofs.bulk.make_stories.Goals as goal
 
@@ -69,6 +71,13 @@ loop-at-preserved g c =
             cost-here is_set parts at here.part here.within here.is,
             c.loop-at.invariant.steps parts before kept is_set listed,
           );
+      counted = omega (
+        arith,
+        c.loop-at.invariant.counted,
+        c.in_ok-made.ensures.counted,
+        ap all_made_count c.in_ok-push.ensures.items,
+        all_made_count-more c.loop-at.all.items c.in_ok-made.made,
+      );
     }
 
 pub returns-clause-steps : goal.returns-clause-steps

@@ -4,6 +4,7 @@ use Rattle.std.proofs.lemmas.List.{nil_from_length}
 use Rattle.std.specs.Vec.{vec_len}
 use Rattle.redl_tree.specs.Leaves.Settings.{set_each}
 use Rattle.redl_tree.specs.declared.kinds.Say.{Say}
+use Rattle.redl_editor.proofs.CountLaws.{all-counted, none-counted}
 use Rattle.redl_editor.proofs.FormerLaws.{former-none, former-undone}
 use Rattle.redl_editor.proofs.KeptLaws.{changes-made, differ-listed}
 use Rattle.redl_editor.specs.Changes.{setting_of, is_changed, former_of}
@@ -28,6 +29,19 @@ returns-in-Ok-clause-kept g c = λ parts unheld kept.
     let are = changes-made old now settings (map setting_of c.deref.result.now) made.revs before c.put_says.ensures made.listed in
     c.set_stories.ensures parts c.args.tables.now (is_changed old now) old made.revs are
     (subst (λ (s : List Say). AreUnheld (is_changed old s) parts) (sym c.put_says.ensures) unheld) made.ready kept
+
+pub returns-then-is_empty-clause-counted : goal.returns-then-is_empty-clause-counted
+returns-then-is_empty-clause-counted g c = λ parts unheld kept. none-counted c.args.says.now _ _ parts
+
+pub returns-in-Ok-clause-counted : goal.returns-in-Ok-clause-counted
+returns-in-Ok-clause-counted g c = λ parts unheld kept.
+    let old = c.args.says.now in
+    let now = c.put_says.new.says in
+    let settings = map setting_of c.args.changes.now in
+    let made = c.in-Ok.ensures.made in
+    let before : map setting_of c.deref.result.now ≡ former_of old settings = ap (map setting_of) c.deref.ensures.value ∙ c.in_ok-former.ensures.former in
+    let are = changes-made old now settings (map setting_of c.deref.result.now) made.revs before c.put_says.ensures made.listed in
+    all-counted now old (is_changed old now) made.revs are _ _ parts _ _ _ unheld kept made.ready made.count c.in-Ok.ensures.counted
 
 pub returns-in-Ok-clause-steps : goal.returns-in-Ok-clause-steps
 returns-in-Ok-clause-steps g c = λ parts kept.

@@ -1,9 +1,9 @@
 use Rattle.std.proofs.Common.{◌≡◌, ◌<◌, ◌+◌, ◌++◌, [], List, length, get_or, map, drop, subst, sym, ap, arith}
 use Rattle.redl_tree.specs.Leaves.States.{slots_of}
 use Rattle.redl_tree.specs.Leaves.Ways.{leaf_at}
-use Rattle.redl_editor.proofs.MakeLaws.{made-pushed, leaf-within, ways-more, sizes-here, any-number}
+use Rattle.redl_editor.proofs.MakeLaws.{made-pushed, made_count-more, leaf-within, ways-more, sizes-here, any-number}
 use Rattle.redl_leaves.specs.Finds.{size_at}
-use Rattle.redl_editor.specs.Inside.Makes.{ways_of}
+use Rattle.redl_editor.specs.Inside.Makes.{made_count, ways_of}
 use Rattle.redl_leaves.specs.Steps.{AreMade, way_of}
 use Rattle.redl_leaves.specs.View.{states_of}
 use Rattle.redl_leaves.specs.declared.stepping.Made.{Made}
@@ -52,4 +52,11 @@ loop-leaf-preserved g c =
                 (ways-more ways leaves i n c.loop-leaf.all.items one lt is way so_far.0),
             omega (arith, so_far.1, sizes-here ways slots leaves i n lt is, ap (λ w. size_at (leaf_at w slots)) way, c.in_ok-nodes.ensures.steps),
           ),
+      omega (
+        arith,
+        c.loop-leaf.invariant.2,
+        c.in_ok-nodes.ensures.counted,
+        ap made_count c.in_ok-push.ensures.items,
+        made_count-more c.loop-leaf.all.items one,
+      ),
     )

@@ -1,5 +1,5 @@
 -- After setting many says the editor holds the same package under them. It is long because its invariant is stated field by field.
-use Rattle.std.proofs.Common.{◌≡◌, ◌∙◌, List, All, length, map, sym, subst, ap, arith}
+use Rattle.std.proofs.Common.{◌≡◌, ◌∙◌, List, All, length, map, refl, sym, subst, ap, arith}
 use Rattle.std.proofs.lemmas.List.{with_items_is}
 use Rattle.std.specs.List.Sorted.{IsNonDecreasingBy}
 use Rattle.std.specs.Result.{OnOk}
@@ -7,9 +7,11 @@ use Rattle.std.specs.Vec.{vec_len, with_items}
 use Rattle.redl_tree.specs.Decisions.Packages.{stories}
 use Rattle.redl_tree.specs.Leaves.Settings.{set_each}
 use Rattle.redl_tree.specs.declared.kinds.Say.{Say}
-use Rattle.redl_editor.proofs.DocumentLaws.{set-either, set-document}
+use Rattle.redl_editor.proofs.CountLaws.{on-ok}
+use Rattle.redl_editor.proofs.DocumentLaws.{numbered-unheld, set-either, set-document}
 use Rattle.redl_editor.proofs.KeptLaws.{kept-rises, kept-tables}
-use Rattle.redl_editor.specs.Changes.{setting_of}
+use Rattle.redl_editor.specs.Changes.{is_changed, setting_of}
+use Rattle.redl_editor.specs.Costs.{AreCounted}
 use Rattle.redl_editor.specs.Documents.{Document, IsConsistent}
 use Rattle.redl_editor.specs.Stories.{original_package}
 use Rattle.redl_editor.specs.declared.story.Story.{Story}
@@ -68,3 +70,16 @@ returns-clause-says g c =
     (record { nodes = original_package nodes kept.items; says = set_each says.items settings }))) (sym kept_is)
     (subst (λ (s : List Say). OnOk c.set_all.result (◌≡◌ {A = Document} (record { nodes = original_package nodes c.set_all.new.stories; says = s })
     (record { nodes = original_package nodes kept.items; says = set_each says.items settings }))) (sym says_is) document))
+
+pub returns-clause-counted : goal.returns-clause-counted
+returns-clause-counted g c =
+    let whole = original_package c.self.inside.nodes.items c.self.inside.stories.items in
+    let says = c.self.inside.says in
+    let now = c.set_all.new.says in
+    let long : length now ≡ vec_len says = omega (arith, c.set_all.auto.says, c.deref_mut-2.ensures.len) in
+    let says_is : (with_items says now).items ≡ now = with_items_is says now long in
+    let counted = rw (c.deref_mut.ensures.value, c.deref.ensures.value, c.deref_mut-2.ensures.value) at c.set_all.ensures.counted in
+    let unheld = numbered-unheld whole c.self.invariant.numbered (is_changed says.items now) refl in
+    subst (λ (d : Document). OnOk c.set_all.result (AreCounted (is_changed d.says (with_items says now).items) (with_items says now).items c.args.steps.now c.set_all.new.steps (stories d.nodes))) c.self.view_is
+    (subst (λ (s : List Say). OnOk c.set_all.result (AreCounted (is_changed says.items s) s c.args.steps.now c.set_all.new.steps (stories whole))) (sym says_is)
+    (on-ok c.set_all.result (λ all. all (stories whole) unheld c.self.invariant.kept) counted))
