@@ -24,8 +24,8 @@ use Rattle.redl_bare.specs.BareText.{text_body, texts_body}
 use Rattle.redl_bare.specs.Inside.Idle.{tag_with, texts_at, open_idle, idle_inside, idle_rule, texts_in}
 use Rattle.redl_bare.specs.declared.units.Thing.TheVariants.{Paragraph, Row, Cell}
 use Rattle.redl_bare.specs.declared.units.Story.TheVariants.{Footnote, Endnote}
-use Rattle.redl_bare.specs.declared.place.Place.{Place}
-use Rattle.redl_bare.specs.declared.place.Place.TheVariants.{Open, InText, InRun, InField, InCounted, Quiet, Silent}
+use Rattle.redl_bare.specs.declared.place.BarePlace.{BarePlace}
+use Rattle.redl_bare.specs.declared.place.BarePlace.TheVariants.{Open, InText, InRun, InField, InCounted, Quiet, Silent}
 
 -- ---- one element
 
@@ -86,7 +86,7 @@ open_idle_units : (marks : Marks) (in_run : Bool) (tag : Tag) → Idle in_run ta
 open_idle_units marks in_run tag i =
     ap (λ (us : List BareUnit). in_marks marks (start_texts tag) ++ us) (things_idle marks in_run tag i) ∙ append-nil (in_marks marks (start_texts tag))
 
-start_idle : (place : Place) (marks : Marks) (in_run : Bool) (tag : Tag) → Idle in_run tag → start_units place marks tag ≡ in_marks marks (texts_at place tag)
+start_idle : (place : BarePlace) (marks : Marks) (in_run : Bool) (tag : Tag) → Idle in_run tag → start_units place marks tag ≡ in_marks marks (texts_at place tag)
 start_idle Silent marks in_run tag i = refl
 start_idle Quiet marks in_run tag i =
     ap (λ kind. if has_line kind then member kind (stamp_in tag.tail) ∷ [] else []) i.kind
@@ -96,12 +96,12 @@ start_idle InField marks in_run tag i = open_idle_units marks in_run tag i
 start_idle InCounted marks in_run tag i = refl
 start_idle Open marks in_run tag i = open_idle_units marks in_run tag i
 
-no_end_things : (place : Place) (marks : Marks) (in_run : Bool) (tag : Tag) → Idle in_run tag → end_things place marks tag ≡ []
+no_end_things : (place : BarePlace) (marks : Marks) (in_run : Bool) (tag : Tag) → Idle in_run tag → end_things place marks tag ≡ []
 no_end_things place marks in_run tag i =
     ap (λ p. if is_open_place place && p then thing marks Paragraph ∷ [] else []) (has-not "p" in_run tag i refl)
     ∙ ap (λ b. if b then thing marks Paragraph ∷ [] else []) (and-false (is_open_place place))
 
-end_idle : (place : Place) (marks : Marks) (in_run : Bool) (tag : Tag) → Idle in_run tag → end_units place marks tag ≡ in_marks marks (end_texts (place_inside place tag))
+end_idle : (place : BarePlace) (marks : Marks) (in_run : Bool) (tag : Tag) → Idle in_run tag → end_units place marks tag ≡ in_marks marks (end_texts (place_inside place tag))
 end_idle place marks in_run tag i =
     ap (λ (us : List BareUnit). in_marks marks (end_texts (place_inside place tag)) ++ us) (no_end_things place marks in_run tag i)
     ∙ append-nil (in_marks marks (end_texts (place_inside place tag)))
@@ -125,7 +125,7 @@ text_same in_run tag i =
     ∙ ap (λ d. is "t" tag || (is "instrText" tag || (d || false))) (has-not "delInstrText" in_run tag i refl)
     ∙ ap (λ w. (w && bytes_eq tag.local (codes "t")) || ((w && bytes_eq tag.local (codes "instrText")) || false)) i.space
 
-abbrev in_line : Tag → Bool → Bool → Place
+abbrev in_line : Tag → Bool → Bool → BarePlace
 in_line tag r field = if r then InRun else if field then field_inside (value_in tag.tail (codes "instr")) else Open
 
 open_same : (in_run : Bool) (tag : Tag) → Idle in_run tag → open_inside tag ≡ open_idle tag.local tag.tail
@@ -138,7 +138,7 @@ open_same in_run tag i =
     ∙ ap (λ f. if is "rPr" (of_w tag.local) then Quiet else if is_any ("t" ∷ "instrText" ∷ []) (of_w tag.local) then InText else in_line tag (is "r" (of_w tag.local)) f)
     (name_same in_run tag i (codes "fldSimple"))
 
-inside_same : (place : Place) (in_run : Bool) (tag : Tag) → Idle in_run tag → place_inside place tag ≡ idle_inside place tag.local tag.tail
+inside_same : (place : BarePlace) (in_run : Bool) (tag : Tag) → Idle in_run tag → place_inside place tag ≡ idle_inside place tag.local tag.tail
 inside_same Silent in_run tag i = refl
 inside_same Quiet in_run tag i = refl
 inside_same InText in_run tag i = open_same in_run tag i
@@ -178,7 +178,7 @@ in_marks-append : (marks : Marks) (xs ys : List Text) → in_marks marks (xs ++ 
 in_marks-append marks [] ys = refl
 in_marks-append marks (x ∷ xs) ys = ap (λ us. text marks x ∷ us) (in_marks-append marks xs ys)
 
-units_texts : (place : Place) (marks : Marks) (in_run : Bool) (x : Nodes) → is_idle_in in_run x ≡ true → units_in place marks x ≡ in_marks marks (texts_in place x)
+units_texts : (place : BarePlace) (marks : Marks) (in_run : Bool) (x : Nodes) → is_idle_in in_run x ≡ true → units_in place marks x ≡ in_marks marks (texts_in place x)
 units_texts place marks in_run no_nodes h = refl
 units_texts place marks in_run (bytes b rest) h =
     ap (λ us. in_marks marks (byte_texts place b) ++ us) (units_texts place marks in_run rest h)
@@ -200,10 +200,10 @@ units_texts place marks in_run (element tag kids rest) h =
 body-append : (xs ys : List Text) → texts_body (xs ++ ys) ≡ texts_body xs ++ texts_body ys
 body-append xs ys = flat_map-append text_body xs ys
 
-texts_at-same : (place : Place) (tag : Tag) → is_w tag.space ≡ true → texts_at place tag ≡ texts_at place (tag_with tag.local tag.tail)
+texts_at-same : (place : BarePlace) (tag : Tag) → is_w tag.space ≡ true → texts_at place tag ≡ texts_at place (tag_with tag.local tag.tail)
 texts_at-same place tag e = ap (λ (ts : List Text). if is_open_place place then ts else []) (texts_w tag e)
 
-texts_shown : (place : Place) (in_run : Bool) (x : Nodes) → is_idle_in in_run x ≡ true → texts_body (texts_in place x) ≡ shows idle_rule place x
+texts_shown : (place : BarePlace) (in_run : Bool) (x : Nodes) → is_idle_in in_run x ≡ true → texts_body (texts_in place x) ≡ shows idle_rule place x
 texts_shown place in_run no_nodes h = refl
 texts_shown place in_run (bytes b rest) h =
     body-append (byte_texts place b) (texts_in place rest) ∙ ap (λ (t : List ℕ). texts_body (byte_texts place b) ++ t) (texts_shown place in_run rest h)
@@ -221,10 +221,10 @@ texts_shown place in_run (element tag kids rest) h =
     ∙ ap (λ (t : List ℕ). (own ++ (shows idle_rule (idle_inside place tag.local tag.tail) kids ++ texts_body (end_texts (idle_inside place tag.local tag.tail)))) ++ t) (texts_shown place in_run rest p.later)
 
 -- what a list keeps as text
-pub units_of_idle : (place : Place) (marks : Marks) (t : List ℕ) → units_in place marks (idle_nodes t) ≡ in_marks marks (texts_in place (idle_nodes t))
+pub units_of_idle : (place : BarePlace) (marks : Marks) (t : List ℕ) → units_in place marks (idle_nodes t) ≡ in_marks marks (texts_in place (idle_nodes t))
 units_of_idle place marks t = units_texts place marks false (idle_nodes t) (nodes_are_idle t)
 
-pub body_of_idle : (place : Place) (t : List ℕ) → texts_body (texts_in place (idle_nodes t)) ≡ shows idle_rule place (idle_nodes t)
+pub body_of_idle : (place : BarePlace) (t : List ℕ) → texts_body (texts_in place (idle_nodes t)) ≡ shows idle_rule place (idle_nodes t)
 body_of_idle place t = texts_shown place false (idle_nodes t) (nodes_are_idle t)
 
 -- ---- no change of a run is among them

@@ -7,11 +7,11 @@ use Rattle.redl_bare.specs.Marks.{Stamp, Marks, stamp_in, value_in, is_run_chang
 use Rattle.redl_tree.specs.Roles.Names.{is}
 use Rattle.redl_bare.specs.Units.{field_texts, short_texts, start_texts, in_marks, byte_texts, place_inside, units_in}
 use Rattle.redl_bare.specs.Inside.Items.{held_units, element_units, item_units, item_change_in, item_change}
-use Rattle.redl_bare.specs.declared.place.Place.{Place}
+use Rattle.redl_bare.specs.declared.place.BarePlace.{BarePlace}
 use Rattle.redl_marks.specs.declared.marks.Marks as code_marks
 use Rattle.redl_bare.proofs.IdleLaws.{change_in_idle, run_change_idle}
 
-units-⊕ : (place : Place) (marks : Marks) (xs ys : Nodes) → units_in place marks (xs ⊕ ys) ≡ units_in place marks xs ++ units_in place marks ys
+units-⊕ : (place : BarePlace) (marks : Marks) (xs ys : Nodes) → units_in place marks (xs ⊕ ys) ≡ units_in place marks xs ++ units_in place marks ys
 units-⊕ place marks no_nodes ys = refl
 units-⊕ place marks (bytes b rest) ys =
     ap (λ us. in_marks marks (byte_texts place b) ++ us) (units-⊕ place marks rest ys)
@@ -20,19 +20,19 @@ units-⊕ place marks (element tag kids rest) ys =
     ap (λ us. element_units place marks tag kids ++ us) (units-⊕ place marks rest ys)
     ∙ sym (append_assoc (element_units place marks tag kids) (units_in place marks rest) (units_in place marks ys))
 
-pub units-in_front : (place : Place) (marks : Marks) (x : Item) (rest : Nodes) → units_in place marks (in_front x rest) ≡ item_units place marks x ++ units_in place marks rest
+pub units-in_front : (place : BarePlace) (marks : Marks) (x : Item) (rest : Nodes) → units_in place marks (in_front x rest) ≡ item_units place marks x ++ units_in place marks rest
 units-in_front place marks (bytes_item b) rest = refl
 units-in_front place marks (element_item tag kids) rest = refl
 units-in_front place marks (idle_item t) rest = units-⊕ place marks (idle_nodes t) rest
 
 -- the units of what an element holds, with its kids, their place and their marks as the code has them
-pub held_read : (place inner : Place) (marks inside : Marks) (tag : Tag) (kids read : Nodes) → inner ≡ place_inside place tag → inside ≡ marks_inside marks tag kids → read ≡ kids
+pub held_read : (place inner : BarePlace) (marks inside : Marks) (tag : Tag) (kids read : Nodes) → inner ≡ place_inside place tag → inside ≡ marks_inside marks tag kids → read ≡ kids
     → held_units place marks tag kids ≡ units_in inner inside read
 held_read place inner marks inside tag kids read e f g =
     ap (λ p. units_in p (marks_inside marks tag kids) kids) (sym e) ∙ ap (λ m. units_in inner m kids) (sym f) ∙ ap (units_in inner inside) (sym g)
 
 -- and nothing after them
-pub held_alone : (place inner : Place) (marks inside : Marks) (tag : Tag) (kids read : Nodes) → inner ≡ place_inside place tag → inside ≡ marks_inside marks tag kids → read ≡ kids
+pub held_alone : (place inner : BarePlace) (marks inside : Marks) (tag : Tag) (kids read : Nodes) → inner ≡ place_inside place tag → inside ≡ marks_inside marks tag kids → read ≡ kids
     → held_units place marks tag kids ≡ units_in inner inside read ++ []
 held_alone place inner marks inside tag kids read e f g =
     held_read place inner marks inside tag kids read e f g ∙ sym (append-nil (units_in inner inside read))

@@ -15,8 +15,8 @@ use Rattle.redl_shown.specs.Shown.{shown}
 use Rattle.redl_stamp.specs.Attribute.{attribute_value}
 use Rattle.redl_bare.specs.Marks.{Stamp, Marks, stamp_in, no_marks, marks_inside, value_in}
 use Rattle.redl_bare.specs.Fields.{is_counted}
-use Rattle.redl_bare.specs.declared.place.Place.{Place}
-use Rattle.redl_bare.specs.declared.place.Place.TheVariants.{Open, InText, InRun, InField, InCounted, Quiet, Silent}
+use Rattle.redl_bare.specs.declared.place.BarePlace.{BarePlace}
+use Rattle.redl_bare.specs.declared.place.BarePlace.TheVariants.{Open, InText, InRun, InField, InCounted, Quiet, Silent}
 use Rattle.redl_bare.specs.declared.units.Thing.{Thing}
 use Rattle.redl_bare.specs.declared.units.Thing.TheVariants.{Paragraph, Row, Cell}
 use Rattle.redl_bare.specs.declared.units.Story.{Story}
@@ -71,10 +71,10 @@ abbrev pub is_text : Tag → Bool
 is_text tag = is_any ("t" ∷ "delText" ∷ "instrText" ∷ "delInstrText" ∷ []) tag
 
 -- the place of the result of a field with this code
-abbrev pub field_inside : List ℕ → Place
+abbrev pub field_inside : List ℕ → BarePlace
 field_inside code = if is_counted code then InCounted else InField
 
-abbrev pub open_inside : Tag → Place
+abbrev pub open_inside : Tag → BarePlace
 open_inside tag =
     if is_left_out tag then Silent
     else if is_quiet tag then Quiet
@@ -84,7 +84,7 @@ open_inside tag =
     else Open
 
 -- the place of what an element holds; the change of a run's properties is a mark of what is in the run, so these are silent
-abbrev pub place_inside : Place → Tag → Place
+abbrev pub place_inside : BarePlace → Tag → BarePlace
 place_inside Silent tag = Silent
 place_inside Quiet tag = Quiet
 place_inside InRun tag = if is "rPr" tag then Silent else open_inside tag
@@ -133,7 +133,7 @@ abbrev pub start_texts : Tag → List Text
 start_texts tag = if is "fldSimple" tag then field_texts (value_in tag.tail (codes "instr")) else short_texts tag
 
 -- what is shown after what is at a place: the end of a field
-abbrev pub end_texts : Place → List Text
+abbrev pub end_texts : BarePlace → List Text
 end_texts InField = object field_end ∷ []
 end_texts InCounted = object field_end ∷ []
 end_texts _ = []
@@ -164,7 +164,7 @@ abbrev pub open_units : Marks → Tag → List BareUnit
 open_units marks tag = in_marks marks (start_texts tag) ++ start_things marks tag
 
 -- the units of an element before those that it holds
-abbrev pub start_units : Place → Marks → Tag → List BareUnit
+abbrev pub start_units : BarePlace → Marks → Tag → List BareUnit
 start_units Silent marks tag = []
 start_units Quiet marks tag = member_units tag
 start_units InRun marks tag = open_units marks tag
@@ -173,28 +173,28 @@ start_units InField marks tag = open_units marks tag
 start_units InCounted marks tag = []
 start_units Open marks tag = open_units marks tag
 
-abbrev pub is_open_place : Place → Bool
+abbrev pub is_open_place : BarePlace → Bool
 is_open_place Silent = false
 is_open_place Quiet = false
 is_open_place InCounted = false
 is_open_place _ = true
 
 -- and after them: a paragraph has its end, and so has a field
-abbrev pub end_things : Place → Marks → Tag → List BareUnit
+abbrev pub end_things : BarePlace → Marks → Tag → List BareUnit
 end_things place marks tag =
     if is_open_place place && is "p" tag then thing marks Paragraph ∷ [] else []
 
-abbrev pub end_units : Place → Marks → Tag → List BareUnit
+abbrev pub end_units : BarePlace → Marks → Tag → List BareUnit
 end_units place marks tag = in_marks marks (end_texts (place_inside place tag)) ++ end_things place marks tag
 
 -- the texts of bytes
-abbrev pub byte_texts : Place → List ℕ → List Text
+abbrev pub byte_texts : BarePlace → List ℕ → List Text
 byte_texts InText b = map byte (shown b)
 byte_texts _ b = []
 
 -- ---- the units of nodes, stories and packages
 
-abbrev pub units_in : Place → Marks → Nodes → List BareUnit
+abbrev pub units_in : BarePlace → Marks → Nodes → List BareUnit
 units_in place marks no_nodes = []
 units_in place marks (bytes b rest) = in_marks marks (byte_texts place b) ++ units_in place marks rest
 units_in place marks (element tag kids rest) =

@@ -10,7 +10,7 @@ ghost use Rattle.redl_bare.specs.Inside.Escapes.{is_plain, is_empty};
 
 use redl_io::{Failed, Sink, put_piece};
 use redl_reading::run;
-use redl_shown::{Piece, next_shown, start};
+use redl_shown::{ShownPiece, next_shown, start};
 
 /// Puts a text with its backslashes, tabs, newlines and carriage returns escaped. It takes no memory.
 pub(crate) fn put_escaped<K: Sink>(text: &[u8], out: &mut K) -> Result<(), Failed>
@@ -66,13 +66,13 @@ pub(crate) fn put_shown<K: Sink>(bytes: &[u8], out: &mut K) -> Result<(), Failed
     Ok(())
 }
 
-fn put_step<K: Sink>(piece: Piece<'_>, out: &mut K) -> Result<(), Failed>
+fn put_step<K: Sink>(piece: ShownPiece<'_>, out: &mut K) -> Result<(), Failed>
     ensures { Puts K.told K.faults K.settled K.lenders out.old out.new (escaped (piece_text piece.entry)) result }
 {
     match piece {
-        Piece::Nothing => Ok(()),
-        Piece::Bytes(bytes) => put_escaped(bytes, out),
-        Piece::Character(character) => put_escaped(
+        ShownPiece::Nothing => Ok(()),
+        ShownPiece::Bytes(bytes) => put_escaped(bytes, out),
+        ShownPiece::Character(character) => put_escaped(
             character.encode_utf8(&mut [0; 4]).as_bytes(),
             out,
         ),
@@ -96,12 +96,15 @@ pub(crate) fn is_shown(bytes: &[u8]) -> bool
 }
 
 // Whether a step shows something.
-fn shows(piece: Piece<'_>) -> bool
+fn shows(piece: ShownPiece<'_>) -> bool
     ensures { result ≡ not (is_empty (piece_text piece.entry)) }
 {
     match piece {
-        Piece::Nothing => false,
-        Piece::Bytes(bytes) => !bytes.is_empty(),
-        Piece::Character(character) => !character.encode_utf8(&mut [0; 4]).as_bytes().is_empty(),
+        ShownPiece::Nothing => false,
+        ShownPiece::Bytes(bytes) => !bytes.is_empty(),
+        ShownPiece::Character(character) => !character
+            .encode_utf8(&mut [0; 4])
+            .as_bytes()
+            .is_empty(),
     }
 }

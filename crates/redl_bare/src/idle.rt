@@ -15,7 +15,7 @@ ghost use Rattle.redl_bare.specs.Inside.Puts.{PutsUnits};
 use crate::escape::{is_shown, put_shown};
 use crate::fields::put_field_text;
 use crate::line::{Line, begin};
-use crate::place::Place;
+use crate::place::BarePlace;
 use crate::starts::{end_body, start_body};
 use crate::values::value_in;
 use redl_idle::{Shows, show};
@@ -26,7 +26,7 @@ use redl_tree::Plain;
 /// Puts the texts of idle elements with these marks. It takes no memory.
 pub(crate) fn put_idle<'a, K: Sink>(
     plain: &Plain<'_>,
-    place: Place,
+    place: BarePlace,
     marks: &Marks<'a>,
     line: &mut Line<'a>,
     out: &mut K,
@@ -40,7 +40,7 @@ pub(crate) fn put_idle<'a, K: Sink>(
     show(plain, &place, out)
 }
 
-impl<K: Sink> Shows<K> for Place {
+impl<K: Sink> Shows<K> for BarePlace {
     ghost use Rattle.redl_idle.specs.Takings.{by_puts};
     ghost use Rattle.redl_bare.specs.Inside.Idle.{idle_rule};
 
@@ -60,7 +60,7 @@ impl<K: Sink> Shows<K> for Place {
         tail: &[u8],
         _ahead: &[u8],
         out: &mut K,
-    ) -> Result<Place, Failed> {
+    ) -> Result<BarePlace, Failed> {
         put_idle_start(*self, local, tail, out)?;
         Ok(self.inside_idle(local, tail))
     }
@@ -70,17 +70,17 @@ impl<K: Sink> Shows<K> for Place {
     }
 }
 
-fn put_idle_bytes<K: Sink>(place: Place, bytes: &[u8], out: &mut K) -> Result<(), Failed>
+fn put_idle_bytes<K: Sink>(place: BarePlace, bytes: &[u8], out: &mut K) -> Result<(), Failed>
     ensures { Puts K.told K.faults K.settled K.lenders out.old out.new (texts_body (byte_texts place bytes.now)) result }
 {
     match place {
-        Place::InText => put_shown(bytes, out),
+        BarePlace::InText => put_shown(bytes, out),
         _ => Ok(()),
     }
 }
 
 fn put_idle_start<K: Sink>(
-    place: Place,
+    place: BarePlace,
     local: &[u8],
     tail: &[u8],
     out: &mut K,
@@ -103,7 +103,7 @@ fn put_open_idle<K: Sink>(local: &[u8], tail: &[u8], out: &mut K) -> Result<(), 
 }
 
 // Whether idle elements here show something. It reads no further than to the first text.
-fn shows_something(plain: &Plain<'_>, place: Place) -> bool
+fn shows_something(plain: &Plain<'_>, place: BarePlace) -> bool
     ensures { result ≡ not (is_empty (shows idle_rule place (idle_nodes plain.now))) }
 {
     match show(plain, &place, &mut Nothing) {
@@ -120,7 +120,7 @@ struct Nothing;
 #[derive(Clone, Copy)]
 struct Something;
 
-impl Shows<Nothing> for Place {
+impl Shows<Nothing> for BarePlace {
     ghost use Rattle.redl_bare.specs.Inside.Idle.{idle_rule};
     ghost use Rattle.redl_bare.specs.Inside.Looks.{takes_nothing};
 
@@ -140,7 +140,7 @@ impl Shows<Nothing> for Place {
         tail: &[u8],
         _ahead: &[u8],
         _out: &mut Nothing,
-    ) -> Result<Place, Something> {
+    ) -> Result<BarePlace, Something> {
         look_at_start(*self, local, tail)?;
         Ok(self.inside_idle(local, tail))
     }
@@ -150,16 +150,16 @@ impl Shows<Nothing> for Place {
     }
 }
 
-fn look_at_bytes(place: Place, bytes: &[u8]) -> Result<(), Something>
+fn look_at_bytes(place: BarePlace, bytes: &[u8]) -> Result<(), Something>
     ensures { ShowsSo (texts_body (byte_texts place bytes.now)) result }
 {
     match place {
-        Place::InText if is_shown(bytes) => Err(Something),
+        BarePlace::InText if is_shown(bytes) => Err(Something),
         _ => Ok(()),
     }
 }
 
-fn look_at_start(place: Place, local: &[u8], tail: &[u8]) -> Result<(), Something>
+fn look_at_start(place: BarePlace, local: &[u8], tail: &[u8]) -> Result<(), Something>
     ensures { ShowsSo (texts_body (texts_at place (tag_with local.now tail.now))) result }
 {
     if place.is_open() {

@@ -21,5 +21,5 @@ mod values;
 mod walk;
 
 pub use package::put_bare;
-pub use place::Place;
+pub use place::BarePlace;
 pub use units::{Story, Thing};

@@ -12,7 +12,7 @@ ghost use Rattle.redl_bare.specs.Inside.Views.{line_view};
 ghost use Rattle.redl_bare.specs.Inside.Puts.{PutsUnits};
 
 use crate::line::{Line, close, put_story};
-use crate::place::Place;
+use crate::place::BarePlace;
 use crate::units::Story;
 use crate::walk::put_elem;
 use redl_io::{Failed, Sink};
@@ -49,7 +49,7 @@ fn put_root<'a, K: Sink>(root: &Elem<'a>, line: &mut Line<'a>, out: &mut K) -> R
     ensures { PutsUnits K.told K.faults K.settled K.lenders out.old out.new (line_view line.old) (line_view line.new) (story_units (element_of root.now)) result }
 {
     put_begin(root, line, out)?;
-    put_elem(root, Place::Open, &mut Marks::none(), line, out)
+    put_elem(root, BarePlace::Open, &mut Marks::none(), line, out)
 }
 
 fn put_begin<'a, K: Sink>(root: &Elem<'a>, line: &mut Line<'a>, out: &mut K) -> Result<(), Failed>

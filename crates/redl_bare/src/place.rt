@@ -13,7 +13,7 @@ use redl_tree::{Elem, Space, Word, is_named, is_quiet, is_word};
 
 /// Where nodes are in their story.
 #[derive(Clone, Copy, Debug, PartialEq, Eq)]
-pub enum Place {
+pub enum BarePlace {
     /// Anywhere but in one of the others.
     Open,
     /// In a text, whose bytes are shown.
@@ -30,85 +30,85 @@ pub enum Place {
     Silent,
 }
 
-impl Place {
+impl BarePlace {
     /// Whether texts and lines are shown here.
     pub(crate) fn is_open(self) -> bool
         ensures { result ≡ is_open_place self }
     {
         match self {
-            Place::Silent | Place::Quiet | Place::InCounted => false,
-            Place::InRun | Place::InText | Place::InField | Place::Open => true,
+            BarePlace::Silent | BarePlace::Quiet | BarePlace::InCounted => false,
+            BarePlace::InRun | BarePlace::InText | BarePlace::InField | BarePlace::Open => true,
         }
     }
 
     /// The place of what an element here holds.
-    pub(crate) fn inside(self, elem: &Elem) -> Place
+    pub(crate) fn inside(self, elem: &Elem) -> BarePlace
         ensures { result ≡ place_inside self (tag_of elem.now) }
     {
         match self {
-            Place::Silent | Place::InCounted => Place::Silent,
-            Place::Quiet => Place::Quiet,
-            Place::InRun if is_word(elem, Word::RPr) => Place::Silent,
-            Place::InRun | Place::InText | Place::InField | Place::Open => open_inside(elem),
+            BarePlace::Silent | BarePlace::InCounted => BarePlace::Silent,
+            BarePlace::Quiet => BarePlace::Quiet,
+            BarePlace::InRun if is_word(elem, Word::RPr) => BarePlace::Silent,
+            BarePlace::InRun | BarePlace::InText | BarePlace::InField | BarePlace::Open =>
+                open_inside(elem),
         }
     }
 
     /// The place of what an idle element with this local name and tail holds.
-    pub(crate) fn inside_idle(self, local: &[u8], tail: &[u8]) -> Place
+    pub(crate) fn inside_idle(self, local: &[u8], tail: &[u8]) -> BarePlace
         ensures { result ≡ idle_inside self local.now tail.now }
     {
         match self {
-            Place::Silent | Place::InCounted => Place::Silent,
-            Place::Quiet => Place::Quiet,
-            Place::InRun if local == b"rPr".as_slice() => Place::Silent,
-            Place::InRun | Place::InText | Place::InField | Place::Open => open_inside_idle(
-                local, tail,
-            ),
+            BarePlace::Silent | BarePlace::InCounted => BarePlace::Silent,
+            BarePlace::Quiet => BarePlace::Quiet,
+            BarePlace::InRun if local == b"rPr".as_slice() => BarePlace::Silent,
+            BarePlace::InRun | BarePlace::InText | BarePlace::InField | BarePlace::Open =>
+                open_inside_idle(local, tail),
         }
     }
 }
 
 // The place of the result of a field with this code.
-fn field_inside(code: &[u8]) -> Place
+fn field_inside(code: &[u8]) -> BarePlace
     ensures { result ≡ field_inside code.now }
 {
     if is_counted(code) {
-        return Place::InCounted;
+        return BarePlace::InCounted;
     }
-    Place::InField
+    BarePlace::InField
 }
 
-fn open_inside_idle(local: &[u8], tail: &[u8]) -> Place
+fn open_inside_idle(local: &[u8], tail: &[u8]) -> BarePlace
     ensures { result ≡ open_idle local.now tail.now }
 {
     if local == b"rPr".as_slice() {
-        Place::Quiet
+        BarePlace::Quiet
     } else if local == b"t".as_slice() || local == b"instrText".as_slice() {
-        Place::InText
+        BarePlace::InText
     } else if local == b"r".as_slice() {
-        Place::InRun
+        BarePlace::InRun
     } else if local == b"fldSimple".as_slice() {
         field_inside(value_in(tail, b"instr"))
     } else {
-        Place::Open
+        BarePlace::Open
     }
 }
 
-fn open_inside(elem: &Elem) -> Place
+fn open_inside(elem: &Elem) -> BarePlace
     ensures { result ≡ open_inside (tag_of elem.now) }
 {
     if is_left_out(elem) {
-        Place::Silent
+        BarePlace::Silent
     } else if is_quiet(elem) {
-        Place::Quiet
+        BarePlace::Quiet
     } else if is_text(elem) {
-        Place::InText
+        BarePlace::InText
     } else if is_word(elem, Word::R) {
-        Place::InRun
+        BarePlace::InRun
     } else if is_named(elem, b"fldSimple") {
         field_inside(value_in(elem.tail(), b"instr"))
     } else {
-        Place::Open
+        BarePlace::Open
     }
 }
 

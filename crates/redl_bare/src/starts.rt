@@ -6,7 +6,7 @@ ghost use Rattle.redl_bare.specs.BareText.{texts_body};
 ghost use Rattle.redl_bare.specs.Units.{short_texts, object_texts, sign_texts, field_part, end_texts};
 ghost use Rattle.redl_bare.specs.Inside.Idle.{tag_with};
 
-use crate::place::Place;
+use crate::place::BarePlace;
 use crate::values::value_in;
 
 /// What an element of W with this local name and tail, which is no field, shows in its line, as it is written there.
@@ -26,11 +26,11 @@ pub(crate) fn start_body(local: &[u8], tail: &[u8]) -> &'static [u8]
 }
 
 /// What is shown after what is at a place, as it is written.
-pub(crate) fn end_body(place: Place) -> &'static [u8]
+pub(crate) fn end_body(place: BarePlace) -> &'static [u8]
     ensures { result.now ≡ texts_body (end_texts place) }
 {
     match place {
-        Place::InField | Place::InCounted => b"\\[field end]",
+        BarePlace::InField | BarePlace::InCounted => b"\\[field end]",
         _ => b"",
     }
 }

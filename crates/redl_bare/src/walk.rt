@@ -15,7 +15,7 @@ use crate::fields::put_field;
 use crate::idle::put_idle;
 use crate::line::{Line, begin, put_member, put_story, put_texts, put_thing};
 use crate::marks::{enter, stamp_in};
-use crate::place::{Place, is_left_out};
+use crate::place::{BarePlace, is_left_out};
 use crate::starts::{end_body, start_body};
 use crate::units::{Story, Thing, has_line};
 use crate::values::value_in;
@@ -27,7 +27,7 @@ use redl_tree::{Elem, Node, Space, Word, is_named, is_word};
 #[cycle(units)]
 pub(crate) fn put_nodes<'a, K: Sink>(
     nodes: &[Node<'a>],
-    place: Place,
+    place: BarePlace,
     marks: &mut Marks<'a>,
     line: &mut Line<'a>,
     out: &mut K,
@@ -44,7 +44,7 @@ pub(crate) fn put_nodes<'a, K: Sink>(
 #[cycle(units)]
 fn put_node<'a, K: Sink>(
     node: &Node<'a>,
-    place: Place,
+    place: BarePlace,
     marks: &mut Marks<'a>,
     line: &mut Line<'a>,
     out: &mut K,
@@ -63,7 +63,7 @@ fn put_node<'a, K: Sink>(
 #[cycle(units)]
 pub(crate) fn put_elem<'a, K: Sink>(
     elem: &Elem<'a>,
-    place: Place,
+    place: BarePlace,
     marks: &mut Marks<'a>,
     line: &mut Line<'a>,
     out: &mut K,
@@ -80,7 +80,7 @@ pub(crate) fn put_elem<'a, K: Sink>(
 #[cycle(units)]
 fn put_held<'a, K: Sink>(
     elem: &Elem<'a>,
-    place: Place,
+    place: BarePlace,
     marks: &mut Marks<'a>,
     line: &mut Line<'a>,
     out: &mut K,
@@ -97,7 +97,7 @@ fn put_held<'a, K: Sink>(
 // Puts the texts of bytes.
 fn put_bytes<'a, K: Sink>(
     bytes: &[u8],
-    place: Place,
+    place: BarePlace,
     marks: &Marks<'a>,
     line: &mut Line<'a>,
     out: &mut K,
@@ -105,7 +105,7 @@ fn put_bytes<'a, K: Sink>(
     ensures { PutsUnits K.told K.faults K.settled K.lenders out.old out.new (line_view line.old) (line_view line.new) (in_marks (marks_view marks.now) (byte_texts place bytes.now)) result }
 {
     match place {
-        Place::InText if is_shown(bytes) => put_shown_bytes(bytes, marks, line, out),
+        BarePlace::InText if is_shown(bytes) => put_shown_bytes(bytes, marks, line, out),
         _ => Ok(()),
     }
 }
@@ -126,7 +126,7 @@ fn put_shown_bytes<'a, K: Sink>(
 // Puts the units of an element before those that it holds.
 fn put_start<'a, K: Sink>(
     elem: &Elem<'a>,
-    place: Place,
+    place: BarePlace,
     marks: &Marks<'a>,
     line: &mut Line<'a>,
     out: &mut K,
@@ -134,9 +134,9 @@ fn put_start<'a, K: Sink>(
     ensures { PutsUnits K.told K.faults K.settled K.lenders out.old out.new (line_view line.old) (line_view line.new) (start_units place (marks_view marks.now) (tag_of elem.now)) result }
 {
     match place {
-        Place::Silent | Place::InCounted => Ok(()),
-        Place::Quiet => put_own_member(elem, line, out),
-        Place::InRun | Place::InText | Place::InField | Place::Open => {
+        BarePlace::Silent | BarePlace::InCounted => Ok(()),
+        BarePlace::Quiet => put_own_member(elem, line, out),
+        BarePlace::InRun | BarePlace::InText | BarePlace::InField | BarePlace::Open => {
             put_open_start(elem, marks, line, out)
         }
     }
@@ -214,7 +214,7 @@ fn put_things<'a, K: Sink>(
 // Puts the units of an element after those that it holds.
 fn put_end<'a, K: Sink>(
     elem: &Elem<'a>,
-    place: Place,
+    place: BarePlace,
     marks: &Marks<'a>,
     line: &mut Line<'a>,
     out: &mut K,
@@ -227,7 +227,7 @@ fn put_end<'a, K: Sink>(
 
 fn put_end_things<'a, K: Sink>(
     elem: &Elem<'a>,
-    place: Place,
+    place: BarePlace,
     marks: &Marks<'a>,
     line: &mut Line<'a>,
     out: &mut K,

@@ -7,8 +7,8 @@ use Rattle.redl_tree.specs.Roles.Names.{is}
 use Rattle.redl_order.specs.Order.{ordered}
 use Rattle.redl_bare.specs.Marks.{Marks, stamp_in, no_marks, marks_inside}
 use Rattle.redl_bare.specs.Units.{Text, BareUnit, thing, member, story, in_marks, has_line, is_left_out, is_open_place, place_inside, start_texts, end_texts, start_things, member_units, open_units, start_units, end_things, end_units, byte_texts, units_in, root_units, story_units, package_units}
-use Rattle.redl_bare.specs.declared.place.Place.{Place}
-use Rattle.redl_bare.specs.declared.place.Place.TheVariants.{Open, InText, InRun, InField, InCounted, Quiet, Silent}
+use Rattle.redl_bare.specs.declared.place.BarePlace.{BarePlace}
+use Rattle.redl_bare.specs.declared.place.BarePlace.TheVariants.{Open, InText, InRun, InField, InCounted, Quiet, Silent}
 use Rattle.redl_bare.specs.declared.units.Thing.TheVariants.{Paragraph, Row, Cell}
 use Rattle.redl_bare.specs.declared.units.Story.TheVariants.{Document, Header, Footer, Footnote, Endnote}
 use Rattle.redl_bare_sound.specs.Said.{AreNamed}
@@ -43,7 +43,7 @@ member_named tag = at (has_line tag.kind) refl
 open_named : (marks : Marks) (tag : Tag) → AreNamed (open_units marks tag)
 open_named marks tag = and_then (in_marks marks (start_texts tag)) (start_things marks tag) (texts_named marks (start_texts tag)) (things_named marks tag)
 
-start_named : (place : Place) (marks : Marks) (tag : Tag) → AreNamed (start_units place marks tag)
+start_named : (place : BarePlace) (marks : Marks) (tag : Tag) → AreNamed (start_units place marks tag)
 start_named Silent marks tag = tt
 start_named Quiet marks tag = member_named tag
 start_named InRun marks tag = open_named marks tag
@@ -52,13 +52,13 @@ start_named InField marks tag = open_named marks tag
 start_named InCounted marks tag = tt
 start_named Open marks tag = open_named marks tag
 
-end_named : (place : Place) (marks : Marks) (tag : Tag) → AreNamed (end_units place marks tag)
+end_named : (place : BarePlace) (marks : Marks) (tag : Tag) → AreNamed (end_units place marks tag)
 end_named place marks tag =
     let texts = end_texts (place_inside place tag) in
     and_then (in_marks marks texts) (end_things place marks tag) (texts_named marks texts)
     (choice (is_open_place place && is "p" tag) (thing marks Paragraph ∷ []) [] (refl, tt) tt)
 
-units_named : (place : Place) (marks : Marks) (nodes : Nodes) → AreNamed (units_in place marks nodes)
+units_named : (place : BarePlace) (marks : Marks) (nodes : Nodes) → AreNamed (units_in place marks nodes)
 units_named place marks no_nodes = tt
 units_named place marks (bytes b rest) =
     and_then (in_marks marks (byte_texts place b)) (units_in place marks rest) (texts_named marks (byte_texts place b)) (units_named place marks rest)

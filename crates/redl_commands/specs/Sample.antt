@@ -13,7 +13,7 @@ use Rattle.redl_lines.specs.declared.failure.Limit.TheVariants.{Sample}
 use Rattle.redl_sample.specs.Journals.{sample_journal}
 use Rattle.redl_sample.specs.Packages.{package_text}
 use Rattle.redl_sample.specs.Summaries.{summary_text, tally_of}
-use Rattle.redl_sample.specs.declared.summary.Summary.{Summary}
+use Rattle.redl_sample.specs.declared.summary.SampleSummary.{SampleSummary}
 use Rattle.redl_session.specs.Says.{verdicts_of}
 use Rattle.redl_session.specs.Sessions.{SessionState}
 use Rattle.sha2.specs.Sha256.{sha256}
@@ -23,7 +23,7 @@ abbrev pub reviewers_entries : ℕ → List Entry
 reviewers_entries number = flat_map (λ reviewer. (sample_journal number reviewer).entries) (0 ∷ 1 ∷ 2 ∷ [])
 
 -- what a session over the sample comes to: its verdicts, and the length and the digest of its written package
-abbrev pub summary_of : ℕ → SessionState → Summary
+abbrev pub summary_of : ℕ → SessionState → SampleSummary
 summary_of number state = record {
   paragraphs = number;
   revisions = length state.revisions;

@@ -21,7 +21,7 @@ use redl_io::{Failed, Sink, Staged, put_piece, put_pieces};
 use redl_join::Book;
 use redl_lines::{End, Failure, Remarks};
 use redl_output::write_nodes;
-use redl_sample::Summary;
+use redl_sample::SampleSummary;
 use redl_tree::Node;
 use std::alloc::{AllocError, Global};
 
@@ -37,7 +37,7 @@ pub enum Output<'b> {
     /// This text of a listing.
     Listing(Vec<u8>),
     /// The summary of a sample.
-    Summary(Summary),
+    Summary(SampleSummary),
 }
 
 /// What a call writes, and what there is to remark.

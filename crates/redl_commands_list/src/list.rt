@@ -115,14 +115,14 @@ fn list_revisions<'a, 'b>(
 
 // What a listing tells of a session: its revisions, the verdicts on them, and their details where the format shows them.
 #[derive(Drop)]
-struct Told {
+struct ListedSession {
     index: Index,
     verdicts: Vec<Verdict>,
     details: Vec<Detail>,
 }
 
 // The same for the format with this name. The nodes go before the rows come, so that they aren't in memory together.
-fn told_of(alloc: Global, name: &str, session: Session) -> Result<Told, AllocError>
+fn told_of(alloc: Global, name: &str, session: Session) -> Result<ListedSession, AllocError>
     ensures index { IfOk result (λ told. told.index ≡ session.entry.revisions) }
     ensures verdicts { IfOk result (λ told. told.verdicts.items ≡ session_verdicts session.entry) }
     ensures details { IfOk result (λ told. told.details.items ≡ session_details name.now session.entry) }
@@ -130,7 +130,7 @@ fn told_of(alloc: Global, name: &str, session: Session) -> Result<Told, AllocErr
 {
     let verdicts = session.verdicts()?;
     let details = session_details(alloc, name, &session)?;
-    Ok(Told {
+    Ok(ListedSession {
         index: session.into_index(),
         verdicts,
         details,
@@ -143,7 +143,7 @@ fn make_listing(
     name: &str,
     only: &[Only],
     parts: &[Text],
-    told: Told,
+    told: ListedSession,
     formats: &mut Vec<Box<dyn RowFormat>>,
 ) -> Result<Vec<u8>, AllocError>
     requires utf8 { All IsUtf8 parts.now }
@@ -157,7 +157,7 @@ fn make_listing(
     ensures taken { OnOk result (formats.new.items ≡ without_named format_name name.now formats.old.items) }
     ensures left { OnErr result ((formats.new.items ≡ formats.old.items) ⊎ (formats.new.items ≡ without_named format_name name.now formats.old.items)) }
 {
-    let Told {
+    let ListedSession {
         index,
         verdicts,
         details,

@@ -18,7 +18,7 @@ use redl_index::Surveyed;
 use redl_inputs::read_package;
 use redl_lines::{Cause, Failure, Limit};
 use redl_live_session::{LiveSession, admit_each};
-use redl_sample::{SAMPLE_LIMIT, Summary, Tally, sample_journal, sample_package};
+use redl_sample::{SAMPLE_LIMIT, SampleSummary, Tally, sample_journal, sample_package};
 use redl_session::Locks;
 use sha2::{Digest, Sha256};
 use std::alloc::{AllocError, Global};
@@ -51,7 +51,11 @@ fn summarize<'b>(alloc: Global, number: u32, pkg: Surveyed) -> Result<Writing<'b
 }
 
 // What a session over the sample comes to after the entries of the reviewers' journals. It goes.
-fn summary_after(alloc: Global, number: u32, begun: LiveSession) -> Result<Summary, AllocError>
+fn summary_after(
+    alloc: Global,
+    number: u32,
+    begun: LiveSession,
+) -> Result<SampleSummary, AllocError>
     requires { number ≤ SAMPLE_LIMIT }
     ensures { IfOk result (λ summary. summary ≡ summary_of number (after begun.entry (reviewers_entries number))) }
 {
@@ -84,12 +88,16 @@ fn admit_reviewers(alloc: Global, number: u32, session: &mut LiveSession) -> Res
 }
 
 // What a session over the sample comes to.
-fn summary_of(alloc: Global, number: u32, session: &LiveSession) -> Result<Summary, AllocError>
+fn summary_of(
+    alloc: Global,
+    number: u32,
+    session: &LiveSession,
+) -> Result<SampleSummary, AllocError>
     ensures { IfOk result (λ summary. summary ≡ summary_of number session.now) }
 {
     let verdicts = session.verdicts()?;
     let written = written_text(alloc, session)?;
-    Ok(Summary {
+    Ok(SampleSummary {
         paragraphs: number,
         revisions: session.index().count(),
         entries: session.book().len(),

@@ -130,7 +130,7 @@ impl<'a> Editor<'a> {
         // A leaf without a member or a marker of a revision of which something else is said then stays as it was.
         ensures elsewhere { OnOk result (StaysElsewhere (is_changed self.old.says self.new.says) self.old self.new) }
     {
-        self.set_many_by::<Brand>(changes, Blank::new(1))
+        self.set_many_uncounted::<Brand>(changes, Blank::new(1))
     }
 
     /// The same as `set`, with the steps counted.
@@ -183,7 +183,11 @@ impl<'a> Editor<'a> {
         write_package(&self.nodes, &self.stories, out)
     }
     // The same as `set_many`, with a counter by this blank, which nobody reads.
-    fn set_many_by<L: Ledger>(&mut self, changes: &[Change], blank: Blank) -> Result<(), AllocError>
+    fn set_many_uncounted<L: Ledger>(
+        &mut self,
+        changes: &[Change],
+        blank: Blank,
+    ) -> Result<(), AllocError>
         requires name { blank.name ≡ L.name }
         requires parts { blank.parts ≡ L.parts }
         requires some { 0 < L.parts }

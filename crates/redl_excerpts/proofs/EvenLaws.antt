@@ -7,7 +7,7 @@ use Rattle.std.specs.Prelude.{not, if◌then◌else◌}
 use Rattle.redl_excerpts.specs.Lines.{Drawn, along, characters_in, drawn, ends_white, in_line, passed, spaced}
 use Rattle.redl_excerpts.specs.Phrases.{Kept, begun, even_from, fits, heard, heard_byte, is_inner, is_white, paused}
 use Rattle.redl_excerpts.specs.Ears.{heard-more}
-use Rattle.redl_excerpts.specs.declared.line.Place.{Place}
+use Rattle.redl_excerpts.specs.declared.line.LinePlace.{LinePlace}
 
 -- ---- one byte
 
@@ -25,9 +25,9 @@ neither true false true h = cc
 neither true false false h = (refl, refl)
 neither false s i h = (refl, refl)
 
-alone : (space s : Bool) → s ≡ true → (space && s) ≡ false → space ≡ false
-alone true s is h = cc
-alone false s is h = refl
+space-false : (space s : Bool) → s ≡ true → (space && s) ≡ false → space ≡ false
+space-false true s is h = cc
+space-false false s is h = refl
 
 only : (s : Bool) → (s || false || false || false) ≡ s
 only true = refl
@@ -49,7 +49,7 @@ fits-line space b h = by (b == 32) refl
   where
     by : (s : Bool) → (b == 32) ≡ s → in_line space b ≡ b ∷ []
     by true is =
-        rw (fits-white space b h, is, alone space (b == 32) is (fits-space space b h).0) (ap (λ (n : ℕ). n ∷ []) (sym (eqb-true b 32 is)))
+        rw (fits-white space b h, is, space-false space (b == 32) is (fits-space space b h).0) (ap (λ (n : ℕ). n ∷ []) (sym (eqb-true b 32 is)))
     by false is = rw (fits-white space b h, is) refl
 
 -- ---- a line
@@ -80,7 +80,7 @@ along-spaced left gap (b ∷ bs) =
     along-spaced (left - length (in_line gap b)) (is_white b) bs
     ∙ ap (λ (n : ℕ). record { left = n; gap = ends_white (is_white b) bs }) count
 
-pub along-even : (place : Place) (bytes : List ℕ) (last : Bool) → even_from true place.gap bytes ≡ Some last → along place bytes ≡ record { left = place.left - length bytes; gap = last }
+pub along-even : (place : LinePlace) (bytes : List ℕ) (last : Bool) → even_from true place.gap bytes ≡ Some last → along place bytes ≡ record { left = place.left - length bytes; gap = last }
 along-even place bytes last h =
     let parts = even-parts true place.gap bytes last h in
     along-spaced place.left place.gap bytes ∙ rw (parts.1, parts.2) refl
@@ -107,9 +107,9 @@ heard-fit text room space b h some = by (b == 32) (is_inner b) refl refl
     by : (s i : Bool) → (b == 32) ≡ s → is_inner b ≡ i → heard_byte kept b ≡ record { text = text ++ b ∷ []; room = if is_inner b then room else room - 1; gap = b == 32; over = false }
     by true i is inner =
         let outer : is_inner b ≡ false = ap is_inner (eqb-true b 32 is) in
-        rw (white, is, alone space (b == 32) is (fits-space space b h).0, positive room some, outer)
+        rw (white, is, space-false space (b == 32) is (fits-space space b h).0, positive room some, outer)
         (ap (λ (n : ℕ). record { text = text ++ n ∷ []; room = room - 1; gap = true; over = false }) (sym (eqb-true b 32 is)))
-    by false true is inner = rw (white, is, inner, alone space (is_inner b) inner (fits-space space b h).1) refl
+    by false true is inner = rw (white, is, inner, space-false space (is_inner b) inner (fits-space space b h).1) refl
     by false false is inner = rw (white, is, inner, positive room some) refl
 
 -- a byte that fits before others

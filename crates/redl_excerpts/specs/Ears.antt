@@ -3,7 +3,7 @@ use Rattle.std.proofs.Common.{◌≡◌, ℕ, Bool, List, [], ◌∷◌, ◌++�
 use Rattle.std.proofs.lemmas.List.{append-nil}
 use Rattle.redl_excerpts.specs.Lines.{Drawn, along, drawn, ends_white, in_line, passed, spaced}
 use Rattle.redl_excerpts.specs.Phrases.{Kept, heard, heard_byte, is_white}
-use Rattle.redl_excerpts.specs.declared.line.Place.{Place}
+use Rattle.redl_excerpts.specs.declared.line.LinePlace.{LinePlace}
 
 pub heard-more : (kept : Kept) (a b : List ℕ) → heard (heard kept a) b ≡ heard kept (a ++ b)
 heard-more kept [] b = refl
@@ -26,6 +26,6 @@ pub drawn-more : (line : Drawn) (a b : List ℕ) → drawn (drawn line a) b ≡ 
 drawn-more line a b =
     rw (spaced-more line.gap a b, ← ends_white-more line.gap a b, append_assoc line.text (spaced line.gap a) (spaced (ends_white line.gap a) b)) refl
 
-pub along-more : (place : Place) (a b : List ℕ) → along (along place a) b ≡ along place (a ++ b)
+pub along-more : (place : LinePlace) (a b : List ℕ) → along (along place a) b ≡ along place (a ++ b)
 along-more place [] b = refl
 along-more place (x ∷ a) b = along-more (passed place x) a b

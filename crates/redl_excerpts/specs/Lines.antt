@@ -2,7 +2,7 @@
 -- in a line (our own rule).
 use Rattle.std.specs.Prelude.{ℕ, zero, suc, ◌-◌, ◌+◌, Bool, true, List, [], ◌∷◌, ◌++◌, length, take, drop, if◌then◌else◌}
 use Rattle.redl_excerpts.specs.Phrases.{is_white, is_inner}
-use Rattle.redl_excerpts.specs.declared.line.Place.{Place}
+use Rattle.redl_excerpts.specs.declared.line.LinePlace.{LinePlace}
 
 -- what one byte adds to a line, where white space came before or not
 abbrev pub in_line : Bool → ℕ → List ℕ
@@ -31,18 +31,18 @@ abbrev pub line_of : List ℕ → List ℕ
 line_of bytes = spaced true bytes
 
 -- the place where a line begins
-abbrev pub line_start : List ℕ → Place
+abbrev pub line_start : List ℕ → LinePlace
 line_start line = record { left = length line; gap = true }
 
 -- the place where it ends
-abbrev pub line_end : Place
+abbrev pub line_end : LinePlace
 line_end = record { left = 0; gap = true }
 
 -- the place behind one byte, and behind many
-unfoldable pub passed : Place → ℕ → Place
+unfoldable pub passed : LinePlace → ℕ → LinePlace
 passed place b = record { left = place.left - length (in_line place.gap b); gap = is_white b }
 
-abbrev pub along : Place → List ℕ → Place
+abbrev pub along : LinePlace → List ℕ → LinePlace
 along place [] = place
 along place (b ∷ bs) = along (passed place b) bs
 
@@ -69,9 +69,9 @@ abbrev pub first_characters : ℕ → List ℕ → List ℕ
 first_characters n bytes = take (length bytes - length (without_characters n bytes)) bytes
 
 -- up to 40 characters of a line before a place
-abbrev pub before : List ℕ → Place → List ℕ
+abbrev pub before : List ℕ → LinePlace → List ℕ
 before line place = last_characters (take (length line - place.left) line)
 
 -- up to 40 characters of a line behind a place
-abbrev pub behind : List ℕ → Place → List ℕ
+abbrev pub behind : List ℕ → LinePlace → List ℕ
 behind line place = first_characters 40 (drop (length line - place.left) line)

@@ -16,7 +16,7 @@ use Rattle.redl_tree.specs.declared.kinds.Trace.{Trace}
 use Rattle.redl_tree.specs.declared.kinds.Trace.TheVariants.{To}
 use Rattle.redl_excerpts.specs.Said.{said, element_said, start_said, holds_text}
 use Rattle.redl_excerpts.specs.Lines.{line_of, line_start, line_end, along, before, behind}
-use Rattle.redl_excerpts.specs.declared.line.Place.{Place}
+use Rattle.redl_excerpts.specs.declared.line.LinePlace.{LinePlace}
 
 -- what one member tells: its element's own id, its text, what stands before and behind, and which properties it changes
 pub record Mention : Type 0 where
@@ -32,8 +32,8 @@ pub record Where : Type 0 where
   pub in_text : Bool
   pub siblings : Nodes
   pub owner : Nodes
-  pub owner_place : Place
-  pub place : Place
+  pub owner_place : LinePlace
+  pub place : LinePlace
   pub whole : List ℕ
 
 -- outside of all paragraphs
@@ -45,7 +45,7 @@ abbrev pub in_paragraph : Nodes → List ℕ → Where
 in_paragraph kids line = record { in_text = false; siblings = kids; owner = kids; owner_place = line_start line; place = line_start line; whole = line }
 
 -- in another element, whose kids begin at this place
-abbrev pub in_element : Where → Tag → Nodes → Place → Where
+abbrev pub in_element : Where → Tag → Nodes → LinePlace → Where
 in_element here tag kids place = record { in_text = holds_text tag; siblings = kids; owner = kids; owner_place = place; place = place; whole = here.whole }
 
 -- where the kids of an element stand
@@ -67,7 +67,7 @@ abbrev pub id_of : Tag → Option (List ℕ)
 id_of tag = attribute_value tag.tail (codes "id")
 
 -- a member is of a stretch of a line: these nodes, which begin at this place
-abbrev pub stretch_in : List ℕ → Tag → Place → Nodes → Mention
+abbrev pub stretch_in : List ℕ → Tag → LinePlace → Nodes → Mention
 stretch_in line tag place nodes = record {
   id = id_of tag;
   said = said false false nodes;

@@ -8,7 +8,7 @@ ghost use Rattle.redl_excerpts.specs.Said.{said};
 ghost use Rattle.redl_tree.specs.Model.View.{kids_of, tag_of};
 
 use crate::excerpt::Excerpt;
-use crate::{Place, behind, tell_nodes};
+use crate::{LinePlace, behind, tell_nodes};
 use redl_changed::ChangedSaid;
 use redl_io::Text;
 use redl_tree::Elem;
@@ -31,7 +31,7 @@ impl Excerpt {
         alloc: Global,
         elem: &Elem,
         line: &[u8],
-        place: Place,
+        place: LinePlace,
     ) -> Result<Away, AllocError>
         ensures opened { OnOk result (self.new ≡ opened self.old (said false false (kids_of elem.now))) }
         ensures away { IfOk result (λ away. away ≡ first_of self.old (stretch_in line.now (tag_of elem.now) place (kids_of elem.now))) }
@@ -53,7 +53,7 @@ impl Excerpt {
         &mut self,
         alloc: Global,
         line: &[u8],
-        end: Place,
+        end: LinePlace,
         away: Away,
     ) -> Result<(), AllocError>
         ensures { OnOk result (self.new ≡ closed self.old away (behind line.now end)) }

@@ -8,7 +8,7 @@ ghost use Rattle.redl_excerpts.specs.Mentions.{id_of, paragraph_end_in, stretch_
 ghost use Rattle.redl_excerpts.specs.Lines.{along, before};
 ghost use Rattle.redl_excerpts.specs.Said.{said};
 
-use crate::{Ear, Phrase, Place, before, behind, tell_nodes};
+use crate::{Ear, LinePlace, Phrase, before, behind, tell_nodes};
 use redl_changed::ChangedSaid;
 use redl_io::Text;
 use redl_kinds::RevKind;
@@ -58,9 +58,9 @@ impl Excerpt {
         alloc: Global,
         elem: &Elem,
         line: &[u8],
-        place: Place,
+        place: LinePlace,
         nodes: &[Node],
-    ) -> Result<Place, AllocError>
+    ) -> Result<LinePlace, AllocError>
         ensures told { OnOk result (self.new ≡ told self.old (stretch_in line.now (tag_of elem.now) place (nodes_of nodes.now))) }
         ensures end { IfOk result (λ end. end ≡ along place (said true false (nodes_of nodes.now))) }
     {
@@ -81,7 +81,7 @@ impl Excerpt {
     ) -> Result<(), AllocError>
         ensures { OnOk result (self.new ≡ told self.old (paragraph_end_in line.now (tag_of elem.now))) }
     {
-        self.begin(alloc, elem, line, Place::end())?;
+        self.begin(alloc, elem, line, LinePlace::end())?;
         self.words.hear("\u{B6}".as_bytes())?;
         self.behind = Text::copy_of(alloc, b"")?;
         Ok(())
@@ -93,7 +93,7 @@ impl Excerpt {
         alloc: Global,
         elem: &Elem,
         line: &[u8],
-        place: Place,
+        place: LinePlace,
     ) -> Result<(), AllocError>
         ensures { OnOk result (self.new ≡ record {
           words = self.old.words;

@@ -100,29 +100,29 @@ impl Ear for Line {
 
 /// A place in a line: how many bytes of it are left, and whether white space came before.
 #[derive(Clone, Copy, Debug, PartialEq, Eq)]
-pub struct Place {
+pub struct LinePlace {
     /// How many bytes of the line stand behind it.
     pub left: usize,
     /// White space stands before it, or nothing.
     pub gap: bool,
 }
 
-impl Place {
+impl LinePlace {
     /// Where a line begins.
-    pub fn start(line: &[u8]) -> Place
+    pub fn start(line: &[u8]) -> LinePlace
         ensures { result ≡ line_start line.now }
     {
-        Place {
+        LinePlace {
             left: line.len(),
             gap: true,
         }
     }
 
     /// Where it ends.
-    pub fn end() -> Place
+    pub fn end() -> LinePlace
         ensures { result ≡ line_end }
     {
-        Place { left: 0, gap: true }
+        LinePlace { left: 0, gap: true }
     }
 
     // Goes past a byte.
@@ -138,7 +138,7 @@ impl Place {
     }
 }
 
-impl Ear for Place {
+impl Ear for LinePlace {
     ghost use Rattle.std.specs.Prelude.{refl};
     ghost use Rattle.redl_excerpts.specs.Lines.{along};
     ghost use Rattle.redl_excerpts.specs.Ears.{along-more};
@@ -167,7 +167,7 @@ impl Ear for Place {
 }
 
 /// Up to 40 characters of the line before the place. `Err` means out of memory.
-pub fn before(alloc: Global, line: &[u8], place: Place) -> Result<Text, AllocError>
+pub fn before(alloc: Global, line: &[u8], place: LinePlace) -> Result<Text, AllocError>
     ensures { IfOk result (λ text. text ≡ before line.now place) }
 {
     let from = line.len().saturating_sub(place.left);
@@ -175,7 +175,7 @@ pub fn before(alloc: Global, line: &[u8], place: Place) -> Result<Text, AllocErr
 }
 
 /// Up to 40 characters of the line behind the place. `Err` means out of memory.
-pub fn behind(alloc: Global, line: &[u8], place: Place) -> Result<Text, AllocError>
+pub fn behind(alloc: Global, line: &[u8], place: LinePlace) -> Result<Text, AllocError>
     ensures { IfOk result (λ text. text ≡ behind line.now place) }
 {
     let from = line.len().saturating_sub(place.left);

@@ -15,7 +15,7 @@ ghost use Rattle.redl_excerpts.specs.Inside.Views.{where_of};
 use crate::excerpt::Excerpt;
 use crate::flat::{are_flat, count_telling};
 use crate::{
-    Line, Place, holds_text, is_paragraph, tell_bytes, tell_nodes, tell_plain, tell_start,
+    Line, LinePlace, holds_text, is_paragraph, tell_bytes, tell_nodes, tell_plain, tell_start,
 };
 use redl_changed::changed_of;
 use redl_index::Revision;
@@ -36,7 +36,7 @@ pub(crate) struct Here<'a, 'n, 's, 'm> {
     /// The kids of the nearest ancestor that is no element of properties.
     pub(crate) owner: &'a [Node<'n>],
     /// Where these begin in the line.
-    pub(crate) owner_place: Place,
+    pub(crate) owner_place: LinePlace,
     /// The whole line.
     pub(crate) whole: &'a [u8],
 }
@@ -48,9 +48,9 @@ pub(crate) fn tell_members(
     revisions: &[Revision],
     nodes: &[Node],
     here: Here<'_, '_, '_, '_>,
-    place: Place,
+    place: LinePlace,
     excerpts: &mut Vec<Excerpt>,
-) -> Result<Place, AllocError>
+) -> Result<LinePlace, AllocError>
     ensures told { OnOk result (TellsEach excerpts.old.items excerpts.new.items (λ v. mentions (is_moved revisions.now v) v (where_of here.entry place) (nodes_of nodes.now))) }
     ensures place { IfOk result (λ behind. behind ≡ along place (said true here.entry.in_text (nodes_of nodes.now))) }
 {
@@ -67,9 +67,9 @@ fn tell_member_node(
     revisions: &[Revision],
     node: &Node,
     here: Here<'_, '_, '_, '_>,
-    place: Place,
+    place: LinePlace,
     excerpts: &mut Vec<Excerpt>,
-) -> Result<Place, AllocError>
+) -> Result<LinePlace, AllocError>
     ensures told { OnOk result (TellsEach excerpts.old.items excerpts.new.items (λ v. item_mentions (is_moved revisions.now v) v (where_of here.entry place) (item_of node.now))) }
     ensures place { IfOk result (λ behind. behind ≡ along place (item_said true here.entry.in_text (item_of node.now))) }
 {
@@ -86,7 +86,7 @@ fn tell_member_node(
     }
 }
 
-fn past_bytes(text: &[u8], in_text: bool, place: Place) -> Result<Place, AllocError>
+fn past_bytes(text: &[u8], in_text: bool, place: LinePlace) -> Result<LinePlace, AllocError>
     ensures { IfOk result (λ behind. behind ≡ along place (bytes_said in_text text.now)) }
 {
     let mut behind = place;
@@ -94,7 +94,7 @@ fn past_bytes(text: &[u8], in_text: bool, place: Place) -> Result<Place, AllocEr
     Ok(behind)
 }
 
-fn past_plain(plain: &Plain<'_>, in_text: bool, place: Place) -> Result<Place, AllocError>
+fn past_plain(plain: &Plain<'_>, in_text: bool, place: LinePlace) -> Result<LinePlace, AllocError>
     ensures { IfOk result (λ behind. behind ≡ along place (said true in_text (idle_nodes plain.now))) }
 {
     let mut behind = place;
@@ -108,9 +108,9 @@ fn tell_member_elem(
     revisions: &[Revision],
     elem: &Elem,
     here: Here<'_, '_, '_, '_>,
-    place: Place,
+    place: LinePlace,
     excerpts: &mut Vec<Excerpt>,
-) -> Result<Place, AllocError>
+) -> Result<LinePlace, AllocError>
     ensures told { OnOk result (TellsEach excerpts.old.items excerpts.new.items (λ v. element_mentions (is_moved revisions.now v) v (where_of here.entry place) (tag_of elem.now) (kids_of elem.now))) }
     ensures place { IfOk result (λ behind. behind ≡ along place (element_said true (tag_of elem.now) (kids_of elem.now))) }
 {
@@ -155,7 +155,7 @@ fn tell_member_elem(
 fn stands_around(
     revisions: &[Revision],
     elem: &Elem,
-    place: Place,
+    place: LinePlace,
     count: usize,
 ) -> Result<bool, AllocError>
     ensures { IfOk result (λ around. IsTrue around → IsAround revisions.now (tag_of elem.now) (kids_of elem.now) place count) }
@@ -189,9 +189,9 @@ fn tell_around(
     revisions: &[Revision],
     elem: &Elem,
     here: Here<'_, '_, '_, '_>,
-    place: Place,
+    place: LinePlace,
     excerpts: &mut Vec<Excerpt>,
-) -> Result<Place, AllocError>
+) -> Result<LinePlace, AllocError>
     requires around { IsAround revisions.now (tag_of elem.now) (kids_of elem.now) place (length excerpts.old.items) }
     ensures told { OnOk result (TellsEach excerpts.old.items excerpts.new.items (λ v. element_mentions (is_moved revisions.now v) v (where_of here.entry place) (tag_of elem.now) (kids_of elem.now))) }
     ensures place { IfOk result (λ behind. behind ≡ along place (element_said true (tag_of elem.now) (kids_of elem.now))) }
@@ -211,7 +211,7 @@ fn tell_around(
     Ok(end)
 }
 
-fn past_start(elem: &Elem, place: Place) -> Result<Place, AllocError>
+fn past_start(elem: &Elem, place: LinePlace) -> Result<LinePlace, AllocError>
     ensures { IfOk result (λ behind. behind ≡ along place (start_said (tag_of elem.now))) }
 {
     let mut behind = place;
@@ -221,7 +221,12 @@ fn past_start(elem: &Elem, place: Place) -> Result<Place, AllocError>
 
 // The place behind an element's kids, which begin here, where a member told of them and nothing inside tells: that where they ended
 // then, so that they need not be walked once more.
-fn end_of_flat(elem: &Elem, place: Place, begin: Place, end: Option<Place>) -> Option<Place>
+fn end_of_flat(
+    elem: &Elem,
+    place: LinePlace,
+    begin: LinePlace,
+    end: Option<LinePlace>,
+) -> Option<LinePlace>
     requires { IfSome end (λ end. end ≡ along place (said true false (kids_of elem.now))) }
     ensures behind { IfSome result (λ behind. behind ≡ along begin (said true (holds_text (tag_of elem.now)) (kids_of elem.now))) }
     ensures flat { IsSome result → are_flat (kids_of elem.now) ≡ true }
@@ -247,7 +252,7 @@ fn tell_paragraph(
         return Ok(());
     }
     let line = line_of(alloc, held)?;
-    let start = Place::start(line.as_bytes());
+    let start = LinePlace::start(line.as_bytes());
     let inside = Here {
         in_text: false,
         siblings: held,
@@ -276,9 +281,9 @@ fn tell_member(
     revisions: &[Revision],
     elem: &Elem,
     here: Here<'_, '_, '_, '_>,
-    place: Place,
+    place: LinePlace,
     excerpts: &mut Vec<Excerpt>,
-) -> Result<Option<Place>, AllocError>
+) -> Result<Option<LinePlace>, AllocError>
     ensures told { OnOk result (TellsEach excerpts.old.items excerpts.new.items (λ v. member_told (is_moved revisions.now v) v (where_of here.entry place) (tag_of elem.now) (kids_of elem.now))) }
     ensures end { IfOk result (λ end. IfSome end (λ end. end ≡ along place (said true false (kids_of elem.now)))) }
 {
@@ -311,9 +316,9 @@ fn tell_kind(
     moved: bool,
     elem: &Elem,
     here: Here<'_, '_, '_, '_>,
-    place: Place,
+    place: LinePlace,
     excerpt: &mut Excerpt,
-) -> Result<Option<Place>, AllocError>
+) -> Result<Option<LinePlace>, AllocError>
     ensures told { OnOk result (excerpt.new ≡ told_all excerpt.old (told_by moved (where_of here.entry place) (tag_of elem.now).kind (tag_of elem.now) (kids_of elem.now))) }
     ensures end { IfOk result (λ end. IfSome end (λ end. end ≡ along place (said true false (kids_of elem.now)))) }
 {

@@ -7,7 +7,7 @@ ghost use Rattle.redl_tree.specs.Model.View.{kids_of};
 ghost use Rattle.redl_excerpts.specs.Excerpts.{TellsEach, excerpts_of, is_moved, nothing_told, package_mentions};
 ghost use Rattle.redl_excerpts.specs.Mentions.{mentions, outside};
 
-use crate::Place;
+use crate::LinePlace;
 use crate::excerpt::Excerpt;
 use crate::members::{Here, tell_members};
 use redl_index::{Index, Revision};
@@ -82,9 +82,16 @@ fn tell_story(
         in_text: false,
         siblings: &[],
         owner: &[],
-        owner_place: Place::end(),
+        owner_place: LinePlace::end(),
         whole: b"",
     };
-    tell_members(alloc, revisions, root.kids(), here, Place::end(), excerpts)?;
+    tell_members(
+        alloc,
+        revisions,
+        root.kids(),
+        here,
+        LinePlace::end(),
+        excerpts,
+    )?;
     Ok(())
 }

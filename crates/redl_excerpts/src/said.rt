@@ -9,7 +9,7 @@ ghost use Rattle.redl_excerpts.specs.Said.{all_plain_from, element_said, holds_t
 
 use crate::ear::Ear;
 use crate::idle::tell_plain;
-use redl_shown::{Piece, next_shown, start};
+use redl_shown::{ShownPiece, next_shown, start};
 use redl_tree::{Elem, Node, Word, is_named, is_quiet, is_word};
 use std::alloc::AllocError;
 
@@ -99,13 +99,13 @@ fn is_all_plain(bytes: &[u8]) -> bool
     plain
 }
 
-fn tell_piece<E: Ear>(piece: Piece<'_>, ear: &mut E) -> Result<(), AllocError>
+fn tell_piece<E: Ear>(piece: ShownPiece<'_>, ear: &mut E) -> Result<(), AllocError>
     ensures { OnOk result (ear.new ≡ E.heard ear.old (piece_text piece.entry)) }
 {
     match piece {
-        Piece::Nothing => Ok(()),
-        Piece::Bytes(bytes) => ear.hear(bytes),
-        Piece::Character(character) => ear.hear(character.encode_utf8(&mut [0; 4]).as_bytes()),
+        ShownPiece::Nothing => Ok(()),
+        ShownPiece::Bytes(bytes) => ear.hear(bytes),
+        ShownPiece::Character(character) => ear.hear(character.encode_utf8(&mut [0; 4]).as_bytes()),
     }
 }
 

@@ -4,7 +4,7 @@ ghost use Rattle.std.specs.Prelude.{◌≡◌, ◌++◌, ◌∷◌, IfOk, OnOk, 
 ghost use Rattle.redl_formats.specs.Formats.{array_of, comma_after};
 
 use crate::draft::Draft;
-use crate::piece::{Item, Piece};
+use crate::piece::{Item, ItemText};
 use std::alloc::{AllocError, Global};
 use std::marker::{Model, PhantomData};
 use std::mem;
@@ -15,7 +15,7 @@ const END: &[u8] = b"]\n";
 /// An array with the pieces of the items (RFC 8259), without white space between, which closing ends. Contracts see the items
 /// and whether it is closed.
 #[derive(Drop)]
-pub struct ArrayFormat<I: Item, P: Piece<I>> {
+pub struct ArrayFormat<I: Item, P: ItemText<I>> {
     alloc: Global,
     draft: Draft<I>,
     // Room for the piece of the next item.
@@ -23,7 +23,7 @@ pub struct ArrayFormat<I: Item, P: Piece<I>> {
     pieces: PhantomData<P>,
 }
 
-impl<I: Item, P: Piece<I>> Model for ArrayFormat<I, P> {
+impl<I: Item, P: ItemText<I>> Model for ArrayFormat<I, P> {
     ghost use Rattle.std.specs.Prelude.{◌≡◌};
     ghost use Rattle.redl_formats.specs.Formats.{Given, IsArrayDraft};
 
@@ -34,7 +34,7 @@ impl<I: Item, P: Piece<I>> Model for ArrayFormat<I, P> {
     ghost invariant = { λ format. IsArrayDraft P.piece_of format.draft.items.items format.draft.closed format.draft.text };
 }
 
-impl<I: Item, P: Piece<I>> ArrayFormat<I, P> {
+impl<I: Item, P: ItemText<I>> ArrayFormat<I, P> {
     /// The format without items. `Err` means out of memory.
     pub fn new(alloc: Global) -> Result<ArrayFormat<I, P>, AllocError>
         ensures { IfOk result (λ format. format ≡ record { items = []; closed = false }) }

@@ -1,6 +1,6 @@
 //! Formats of items, as the rows of a listing or the lines of a report, and the fields of which their texts are made.
 //!
-//! Read `LineFormat` first: with an `Item` and a `Piece` for it, it is a line for each item; `ArrayFormat` is an array of JSON.
+//! Read `LineFormat` first: with an `Item` and a `ItemText` for it, it is a line for each item; `ArrayFormat` is an array of JSON.
 //! Both promise at each moment the text that `specs/Formats.antt` gives for the items so far. Columns, tabs, members of objects and
 //! dates are functions that add exactly their text.
 //! What the items are, and which formats there are by what names, is left to the crates above.
@@ -22,4 +22,4 @@ pub use fields::{
 };
 pub use line_format::LineFormat;
 pub use members::{put_date, put_number, put_text};
-pub use piece::{Item, Piece};
+pub use piece::{Item, ItemText};

@@ -4,14 +4,14 @@ ghost use Rattle.std.specs.Prelude.{◌≡◌, ◌++◌, ◌∷◌, IfOk, OnOk, 
 ghost use Rattle.redl_formats.specs.Formats.{lines_of};
 
 use crate::draft::Draft;
-use crate::piece::{Item, Piece};
+use crate::piece::{Item, ItemText};
 use std::alloc::{AllocError, Global};
 use std::marker::{Model, PhantomData};
 use std::mem;
 
 /// The pieces of the items, one after another, to which closing adds nothing. Contracts see the items and whether it is closed.
 #[derive(Drop)]
-pub struct LineFormat<I: Item, P: Piece<I>> {
+pub struct LineFormat<I: Item, P: ItemText<I>> {
     alloc: Global,
     draft: Draft<I>,
     // Room for the piece of the next item.
@@ -19,7 +19,7 @@ pub struct LineFormat<I: Item, P: Piece<I>> {
     pieces: PhantomData<P>,
 }
 
-impl<I: Item, P: Piece<I>> Model for LineFormat<I, P> {
+impl<I: Item, P: ItemText<I>> Model for LineFormat<I, P> {
     ghost use Rattle.std.specs.Prelude.{◌≡◌};
     ghost use Rattle.redl_formats.specs.Formats.{Given, lines_of};
 
@@ -30,7 +30,7 @@ impl<I: Item, P: Piece<I>> Model for LineFormat<I, P> {
     ghost invariant = { λ format. format.draft.text.items ≡ lines_of P.piece_of format.draft.items.items format.draft.closed };
 }
 
-impl<I: Item, P: Piece<I>> LineFormat<I, P> {
+impl<I: Item, P: ItemText<I>> LineFormat<I, P> {
     /// The format without items. It takes no memory, and no `Err` comes.
     pub fn new(alloc: Global) -> Result<LineFormat<I, P>, AllocError>
         ensures { IfOk result (λ format. format ≡ record { items = []; closed = false }) }

@@ -15,7 +15,7 @@ pub trait Item: Drop {
 }
 
 /// What a format makes of its items, one by one.
-pub trait Piece<I: Item> {
+pub trait ItemText<I: Item> {
     // The name of the format.
     ghost title: { List ℕ };
 

@@ -6,8 +6,8 @@ use Rattle.std.proofs.lemmas.Bool.{eqb-true, and_parts, cases_Bool, not-true, or
 use Rattle.std.proofs.lemmas.Bool.Decides.{nat_tests}
 use Rattle.std.proofs.lemmas.Option.{same_Some, cond_some, some_pair_parts, none-some}
 use lib.Utf8.{encode}
-use Rattle.redl_grammar.specs.declared.place.Place.{Place}
-use Rattle.redl_grammar.specs.declared.place.Place.TheVariants.{BeforeRoot, InElement, AfterRoot}
+use Rattle.redl_grammar.specs.declared.section.Section.{Section}
+use Rattle.redl_grammar.specs.declared.section.Section.TheVariants.{BeforeRoot, InElement, AfterRoot}
 use Rattle.redl_grammar.specs.Characters.{is_space, is_name_start, is_name_character}
 use Rattle.redl_reading.specs.Lists.{behind, begins, front, after, is_filled}
 use Rattle.redl_reading.specs.Steps.{◌>>=◌, or_same}
@@ -257,7 +257,7 @@ declared_takes bs = of (declaration_at bs) refl where
   of None e = (None, refl, tt)
   of (Some more) e = let t = declaration_takes bs more e in (Some t.0, t.1, t.2)
 
-pub head_takes : (place : Place) (bs : List ℕ) → (h : Head) × (bs ≡ head_then h (after_head place bs)) × IsHead place h
+pub head_takes : (place : Section) (bs : List ℕ) → (h : Head) × (bs ≡ head_then h (after_head place bs)) × IsHead place h
 head_takes InElement bs = (no_head, refl, refl)
 head_takes AfterRoot bs = (no_head, refl, refl)
 head_takes BeforeRoot bs =
@@ -275,7 +275,7 @@ unfolding after_declaration
 declared_again None bs h none = (rw none.no_declaration refl, none.no_mark)
 declared_again (Some d) bs h none = (rw (declaration_again d bs h) refl, refl)
 
-pub head_again : (place : Place) (h : Head) (bs : List ℕ) → IsHead place h → (place ≡ BeforeRoot → NoHead bs) → after_head place (head_then h bs) ≡ bs
+pub head_again : (place : Section) (h : Head) (bs : List ℕ) → IsHead place h → (place ≡ BeforeRoot → NoHead bs) → after_head place (head_then h bs) ≡ bs
 head_again InElement h bs legal none = ap (λ (k : Head). head_then k bs) legal
 head_again AfterRoot h bs legal none = ap (λ (k : Head). head_then k bs) legal
 head_again BeforeRoot h bs legal none =

@@ -1,8 +1,8 @@
 -- A comment, an instruction or CDATA is read exactly if the bytes begin with it.
 use Rattle.std.proofs.Common.{◌≡◌, ◌≢◌, ℕ, Bool, true, false, cond, eqb, List, [], ◌∷◌, ◌++◌, Option, Some, None, refl, sym, ap, subst, ◌∙◌, inl, inr}
 use Rattle.std.specs.Prelude.{not, ◌||◌, codes}
-use Rattle.redl_grammar.specs.declared.place.Place.{Place}
-use Rattle.redl_grammar.specs.declared.place.Place.TheVariants.{BeforeRoot, InElement, AfterRoot}
+use Rattle.redl_grammar.specs.declared.section.Section.{Section}
+use Rattle.redl_grammar.specs.declared.section.Section.TheVariants.{BeforeRoot, InElement, AfterRoot}
 use Rattle.redl_grammar.specs.Characters.{is_space}
 use Rattle.redl_reading.specs.Lists.{behind, begins, lacks, past}
 use Rattle.redl_grammar.specs.Stretches.{is_comment, begins_other, is_xml, is_apart, IsInstruction, Item, comment, instruction, cdata, item_then, IsItem, begins_item}
@@ -164,19 +164,19 @@ brackets_apart b (c ∷ []) rest h =
     ]
 brackets_apart b (c ∷ d ∷ t) rest h = h
 
-cdata_takes : (place : Place) (bs rest : List ℕ) → cdata_at place bs ≡ Some rest → (c : List ℕ) × (bs ≡ c ++ (codes "]]>" ++ rest)) × IsItem place (cdata c)
+cdata_takes : (place : Section) (bs rest : List ℕ) → cdata_at place bs ≡ Some rest → (c : List ℕ) × (bs ≡ c ++ (codes "]]>" ++ rest)) × IsItem place (cdata c)
 cdata_takes BeforeRoot bs rest e = absurd cc
 cdata_takes AfterRoot bs rest e = absurd cc
 cdata_takes InElement bs rest e = let t = past_takes 93 (93 ∷ 62 ∷ []) bs rest e in (t.0, t.1, (refl, t.2))
 
-cdata_again : (place : Place) (c rest : List ℕ) → IsItem place (cdata c) → cdata_at place (c ++ (codes "]]>" ++ rest)) ≡ Some rest
+cdata_again : (place : Section) (c rest : List ℕ) → IsItem place (cdata c) → cdata_at place (c ++ (codes "]]>" ++ rest)) ≡ Some rest
 cdata_again place c rest h =
-    let P : Place → Type 0 = λ p. cdata_at p (c ++ (codes "]]>" ++ rest)) ≡ Some rest in
+    let P : Section → Type 0 = λ p. cdata_at p (c ++ (codes "]]>" ++ rest)) ≡ Some rest in
     subst P (sym h.0) (past_again 93 (93 ∷ 62 ∷ []) c rest brackets_apart h.1)
 
 -- ---- items
 
-opened_takes : (place : Place) (bs rest : List ℕ) (a b c : Option (List ℕ)) → behind (codes "<!--") bs ≡ a → behind (codes "<?") bs ≡ b → behind (codes "<![CDATA[") bs ≡ c → opened_at place a b c ≡ Some rest → (i : Item) × (bs ≡ item_then i rest) × IsItem place i
+opened_takes : (place : Section) (bs rest : List ℕ) (a b c : Option (List ℕ)) → behind (codes "<!--") bs ≡ a → behind (codes "<?") bs ≡ b → behind (codes "<![CDATA[") bs ≡ c → opened_at place a b c ≡ Some rest → (i : Item) × (bs ≡ item_then i rest) × IsItem place i
 opened_takes place bs rest (Some text) b c ea eb ec e =
     let t = comment_takes text rest e in
     (comment t.0, behind_takes (codes "<!--") bs text ea ∙ ap (λ (z : List ℕ). codes "<!--" ++ z) t.1, t.2)
@@ -188,11 +188,11 @@ opened_takes place bs rest None None (Some text) ea eb ec e =
     (cdata t.0, behind_takes (codes "<![CDATA[") bs text ec ∙ ap (λ (z : List ℕ). codes "<![CDATA[" ++ z) t.1, t.2)
 opened_takes place bs rest None None None ea eb ec e = absurd cc
 
-pub item_takes : (place : Place) (bs rest : List ℕ) → item_at place bs ≡ Some rest → (i : Item) × (bs ≡ item_then i rest) × IsItem place i
+pub item_takes : (place : Section) (bs rest : List ℕ) → item_at place bs ≡ Some rest → (i : Item) × (bs ≡ item_then i rest) × IsItem place i
 unfolding item_at
 item_takes place bs rest e = opened_takes place bs rest (behind (codes "<!--") bs) (behind (codes "<?") bs) (behind (codes "<![CDATA[") bs) refl refl refl e
 
-pub item_again : (place : Place) (i : Item) (rest : List ℕ) → IsItem place i → item_at place (item_then i rest) ≡ Some rest
+pub item_again : (place : Section) (i : Item) (rest : List ℕ) → IsItem place i → item_at place (item_then i rest) ≡ Some rest
 unfolding item_at
 item_again place (comment text) rest h = comment_again text rest h
 item_again place (instruction name text) rest h = instruction_again name text rest h

@@ -5,7 +5,7 @@ use Rattle.std.specs.List.{list_all}
 use Rattle.std.proofs.lemmas.Bool.Decides.{nat_tests}
 use Rattle.std.proofs.lemmas.Bool.{eqb-true, and_parts, cases_Bool, not-true}
 use Rattle.std.proofs.lemmas.Option.{some_pair_parts}
-use Rattle.redl_grammar.specs.declared.place.Place.{Place}
+use Rattle.redl_grammar.specs.declared.section.Section.{Section}
 use Rattle.redl_reading.specs.Lists.{behind, begins, is_other}
 use Rattle.redl_grammar.specs.Names.{Name, name_text, IsName}
 use Rattle.redl_grammar.specs.Stretches.{Item, items_then, Head, Declaration, head_then, begins_item, ends_stretch}
@@ -21,19 +21,19 @@ use Rattle.redl_grammar.proofs.Stretches.{whole_then, stretch_takes, stretch_aga
 
 -- ---- the bytes begin with what is read
 
-tag_stands : (place : Place) (bs : List ℕ) (p : Piece) (rest : List ℕ) → bs ≡ piece_then p rest → IsTag p → Stands place bs p rest
+tag_stands : (place : Section) (bs : List ℕ) (p : Piece) (rest : List ℕ) → bs ≡ piece_then p rest → IsTag p → Stands place bs p rest
 tag_stands place bs (stretch s) rest e h = absurd h
 tag_stands place bs (start_tag name tail) rest e h = record { whole = e; legal = h; follows = tt }
 tag_stands place bs (empty_tag name tail) rest e h = record { whole = e; legal = h; follows = tt }
 tag_stands place bs (end_tag name space) rest e h = record { whole = e; legal = h; follows = tt }
 
-stretch_stands : (place : Place) (bs : List ℕ) (x : Piece × List ℕ) → stretch_at place bs ≡ Some x → Stands place bs x.0 x.1
+stretch_stands : (place : Section) (bs : List ℕ) (x : Piece × List ℕ) → stretch_at place bs ≡ Some x → Stands place bs x.0 x.1
 stretch_stands place bs x e =
     let t = stretch_takes place bs x e in
     let P : Piece → Type 0 = λ p. Stands place bs p x.1 in
     subst P (sym t.1) (record { whole = t.2; legal = t.3; follows = t.4 })
 
-cases_take : (place : Place) (bs : List ℕ) (x : Piece × List ℕ) (a b : Option (List ℕ)) → behind (codes "</") bs ≡ a → behind (codes "<") bs ≡ b → tag_or_stretch place bs a b ≡ Some x → Stands place bs x.0 x.1
+cases_take : (place : Section) (bs : List ℕ) (x : Piece × List ℕ) (a b : Option (List ℕ)) → behind (codes "</") bs ≡ a → behind (codes "<") bs ≡ b → tag_or_stretch place bs a b ≡ Some x → Stands place bs x.0 x.1
 cases_take place bs x (Some rest) b ea eb e = let t = end_takes rest x e in tag_stands place bs x.0 x.1 (behind_takes (codes "</") bs rest ea ∙ t.0) t.1
 cases_take place bs x None (Some rest) ea eb e =
     elim (cases_Bool (begins_item bs)) [
@@ -43,7 +43,7 @@ cases_take place bs x None (Some rest) ea eb e =
 cases_take place bs x None None ea eb e = stretch_stands place bs x e
 
 -- a piece that is read stands at the start of the bytes
-pub piece_takes : (place : Place) (bs : List ℕ) (x : Piece × List ℕ) → piece_at place bs ≡ Some x → Stands place bs x.0 x.1
+pub piece_takes : (place : Section) (bs : List ℕ) (x : Piece × List ℕ) → piece_at place bs ≡ Some x → Stands place bs x.0 x.1
 unfolding piece_at
 piece_takes place bs x e = cases_take place bs x (behind (codes "</") bs) (behind (codes "<") bs) refl refl e
 
@@ -61,11 +61,11 @@ name_begins_tag name rest h =
     let P : List ℕ → Type 0 = λ z. (behind (codes "/") (z ++ rest) ≡ None) × (begins_item (60 ∷ (z ++ rest)) ≡ false) in
     subst P (sym head.3) (high_begins_tag head.0 (head.1 ++ rest) head.2)
 
-read_end : (place : Place) (bs : List ℕ) → piece_at place (60 ∷ 47 ∷ bs) ≡ end_tag_at bs
+read_end : (place : Section) (bs : List ℕ) → piece_at place (60 ∷ 47 ∷ bs) ≡ end_tag_at bs
 unfolding piece_at
 read_end place bs = refl
 
-tag_is_read : (place : Place) (name : Name) (rest : List ℕ) → IsName name → piece_at place (60 ∷ (name_text name ++ rest)) ≡ tag_at (name_text name ++ rest)
+tag_is_read : (place : Section) (name : Name) (rest : List ℕ) → IsName name → piece_at place (60 ∷ (name_text name ++ rest)) ≡ tag_at (name_text name ++ rest)
 unfolding piece_at
 tag_is_read place name rest h = let apart = name_begins_tag name rest h in rw (apart.0, apart.1) refl
 
@@ -92,11 +92,11 @@ no_tag_no_end (b ∷ bs) e =
       | inr other ↦ rw other refl
     ]
 
-item_is_read : (place : Place) (bs : List ℕ) (o : Option (List ℕ)) → begins_item bs ≡ true → tag_or_stretch place bs None o ≡ stretch_at place bs
+item_is_read : (place : Section) (bs : List ℕ) (o : Option (List ℕ)) → begins_item bs ≡ true → tag_or_stretch place bs None o ≡ stretch_at place bs
 item_is_read place bs None e = refl
 item_is_read place bs (Some start) e = rw e refl
 
-stretch_is_read : (place : Place) (bs : List ℕ) → Begins bs → piece_at place bs ≡ stretch_at place bs
+stretch_is_read : (place : Section) (bs : List ℕ) → Begins bs → piece_at place bs ≡ stretch_at place bs
 unfolding piece_at
 stretch_is_read place bs (inl e) = rw (no_tag_no_end bs e, e) refl
 stretch_is_read place bs (inr e) = rw (item_is_no_end bs e) (item_is_read place bs (behind (codes "<") bs) e)
@@ -115,7 +115,7 @@ head_begins false (Some d) first more rest h filled = inr refl
 head_begins false None first more rest h filled = content_begins first more rest h filled
 
 -- a piece that is written is read again
-pub piece_again : (place : Place) (p : Piece) (rest : List ℕ) → IsPiece place p → Follows p rest → piece_at place (piece_then p rest) ≡ Some (p, rest)
+pub piece_again : (place : Section) (p : Piece) (rest : List ℕ) → IsPiece place p → Follows p rest → piece_at place (piece_then p rest) ≡ Some (p, rest)
 piece_again place (start_tag name tail) rest h f = tag_is_read place name (tail ++ (62 ∷ rest)) h.0 ∙ start_again name tail rest h.0 h.1
 piece_again place (empty_tag name tail) rest h f = tag_is_read place name (tail ++ (47 ∷ 62 ∷ rest)) h.0 ∙ empty_again name tail rest h.0 h.1
 piece_again place (end_tag name space) rest h f = read_end place (name_text name ++ (space ++ (62 ∷ rest))) ∙ end_again name space rest h.0 h.1
@@ -126,15 +126,15 @@ piece_again place (stretch s) rest h f =
     stretch_is_read place (s ++ rest) begins_so ∙ stretch_again place s rest h f
 
 -- a piece that the grammar has at the start is the one that is read
-pub stands_is_read : (place : Place) (bs : List ℕ) (p : Piece) (rest : List ℕ) → Stands place bs p rest → piece_at place bs ≡ Some (p, rest)
+pub stands_is_read : (place : Section) (bs : List ℕ) (p : Piece) (rest : List ℕ) → Stands place bs p rest → piece_at place bs ≡ Some (p, rest)
 stands_is_read place bs p rest h = ap (piece_at place) h.whole ∙ piece_again place p rest h.legal h.follows
 
 -- two pieces with which one text begins are equal
-pub one_piece : (place : Place) (bs : List ℕ) (p q : Piece) (x y : List ℕ) → Stands place bs p x → Stands place bs q y → (p ≡ q) × (x ≡ y)
+pub one_piece : (place : Section) (bs : List ℕ) (p q : Piece) (x y : List ℕ) → Stands place bs p x → Stands place bs q y → (p ≡ q) × (x ≡ y)
 one_piece place bs p q x y hp hq = some_pair_parts p q x y (sym (stands_is_read place bs p x hp) ∙ stands_is_read place bs q y hq)
 
 -- a piece takes at least a byte
-pub piece_shorter : (place : Place) (bs : List ℕ) (x : Piece × List ℕ) → piece_at place bs ≡ Some x → length x.1 < length bs
+pub piece_shorter : (place : Section) (bs : List ℕ) (x : Piece × List ℕ) → piece_at place bs ≡ Some x → length x.1 < length bs
 piece_shorter place bs x e = let t = piece_takes place bs x e in omega (arith, ap length t.whole, longer x.0 x.1 t.legal) where
   filled_long : (s : List ℕ) → (s ≢ []) → 0 < length s
   filled_long [] h = absurd (h refl)

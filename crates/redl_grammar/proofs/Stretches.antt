@@ -3,8 +3,8 @@ use Rattle.std.proofs.Common.{◌≡◌, ◌≢◌, ℕ, zero, suc, ◌<◌, ◌
 use Rattle.std.specs.Prelude.{not}
 use Rattle.std.specs.List.{AllByRecursion}
 use Rattle.std.proofs.lemmas.Option.{same_Some, cond_some, none-some}
-use Rattle.redl_grammar.specs.declared.place.Place.{Place}
-use Rattle.redl_grammar.specs.declared.place.Place.TheVariants.{BeforeRoot, InElement, AfterRoot}
+use Rattle.redl_grammar.specs.declared.section.Section.{Section}
+use Rattle.redl_grammar.specs.declared.section.Section.TheVariants.{BeforeRoot, InElement, AfterRoot}
 use Rattle.redl_reading.specs.Lists.{front, after, before, is_filled, is_other}
 use Rattle.redl_reading.specs.Steps.{done, next, turn, turns}
 use Rattle.redl_grammar.specs.Stretches.{is_run, IsRun, Item, comment, instruction, cdata, item_then, IsItem, items_then, Head, head_then, IsStretch, begins_item, ends_stretch}
@@ -24,24 +24,24 @@ no_tag = is_other 60
 
 -- ---- turns
 
-step_refuses : (place : Place) (bs : List ℕ) → is_run place (front no_tag bs) ≡ false → stretch_step place bs ≡ done None
+step_refuses : (place : Section) (bs : List ℕ) → is_run place (front no_tag bs) ≡ false → stretch_step place bs ≡ done None
 unfolding stretch_step
 step_refuses place bs r = rw r refl
 
-step_ends : (place : Place) (bs : List ℕ) → is_run place (front no_tag bs) ≡ true → begins_item (after no_tag bs) ≡ false → stretch_step place bs ≡ done (Some (after no_tag bs))
+step_ends : (place : Section) (bs : List ℕ) → is_run place (front no_tag bs) ≡ true → begins_item (after no_tag bs) ≡ false → stretch_step place bs ≡ done (Some (after no_tag bs))
 unfolding stretch_step
 step_ends place bs r e = rw (r, e) refl
 
-step_fails : (place : Place) (bs : List ℕ) → is_run place (front no_tag bs) ≡ true → begins_item (after no_tag bs) ≡ true → item_at place (after no_tag bs) ≡ None → stretch_step place bs ≡ done None
+step_fails : (place : Section) (bs : List ℕ) → is_run place (front no_tag bs) ≡ true → begins_item (after no_tag bs) ≡ true → item_at place (after no_tag bs) ≡ None → stretch_step place bs ≡ done None
 unfolding stretch_step
 step_fails place bs r e i = rw (r, e, i) refl
 
-step_goes : (place : Place) (bs rest : List ℕ) → is_run place (front no_tag bs) ≡ true → begins_item (after no_tag bs) ≡ true → item_at place (after no_tag bs) ≡ Some rest → stretch_step place bs ≡ next rest
+step_goes : (place : Section) (bs rest : List ℕ) → is_run place (front no_tag bs) ≡ true → begins_item (after no_tag bs) ≡ true → item_at place (after no_tag bs) ≡ Some rest → stretch_step place bs ≡ next rest
 unfolding stretch_step
 step_goes place bs rest r e i = rw (r, e, i) refl
 
 -- what was read of runs and items
-pub record Reads (place : Place) (bs rest : List ℕ) : Type 0 where
+pub record Reads (place : Section) (bs rest : List ℕ) : Type 0 where
   pub first : List ℕ
   pub more : List (Item × List ℕ)
   pub whole : bs ≡ first ++ items_then more rest
@@ -49,7 +49,7 @@ pub record Reads (place : Place) (bs rest : List ℕ) : Type 0 where
   pub each : AllByRecursion (λ i. IsItem place i.0 × IsRun place i.1) more
   pub end : ends_stretch rest ≡ true
 
-run_is : (place : Place) (bs : List ℕ) → is_run place (front no_tag bs) ≡ true → IsRun place (front no_tag bs)
+run_is : (place : Section) (bs : List ℕ) → is_run place (front no_tag bs) ≡ true → IsRun place (front no_tag bs)
 run_is place bs h = record { no_tag = front_passes no_tag bs; allowed = h }
 
 end_is : (rest : List ℕ) → stops no_tag rest ≡ true → begins_item rest ≡ false → ends_stretch rest ≡ true
@@ -73,7 +73,7 @@ item_stops (comment text) rest = refl
 item_stops (instruction name text) rest = refl
 item_stops (cdata text) rest = refl
 
-reads_end : (place : Place) (bs rest : List ℕ) → is_run place (front no_tag bs) ≡ true → begins_item (after no_tag bs) ≡ false → after no_tag bs ≡ rest → Reads place bs rest
+reads_end : (place : Section) (bs rest : List ℕ) → is_run place (front no_tag bs) ≡ true → begins_item (after no_tag bs) ≡ false → after no_tag bs ≡ rest → Reads place bs rest
 reads_end place bs rest r e same =
     record {
       first = front no_tag bs;
@@ -84,7 +84,7 @@ reads_end place bs rest r e same =
       end = rw (← same) (end_is (after no_tag bs) (after_stops no_tag bs) e);
     }
 
-reads_more : (place : Place) (bs next_bs rest : List ℕ) → is_run place (front no_tag bs) ≡ true → item_at place (after no_tag bs) ≡ Some next_bs → Reads place next_bs rest → Reads place bs rest
+reads_more : (place : Section) (bs next_bs rest : List ℕ) → is_run place (front no_tag bs) ≡ true → item_at place (after no_tag bs) ≡ Some next_bs → Reads place next_bs rest → Reads place bs rest
 reads_more place bs next_bs rest r e reads =
     let t = item_takes place (after no_tag bs) next_bs e in
     record {
@@ -96,7 +96,7 @@ reads_more place bs next_bs rest r e reads =
       end = reads.end;
     }
 
-take_turns : (place : Place) (n : ℕ) (bs rest : List ℕ) → turns (stretch_step place) n bs ≡ Some rest → Reads place bs rest
+take_turns : (place : Section) (n : ℕ) (bs rest : List ℕ) → turns (stretch_step place) n bs ≡ Some rest → Reads place bs rest
 take_turns place zero bs rest e = absurd cc
 take_turns place (suc n) bs rest e =
     elim (cases_Bool (is_run place (front no_tag bs))) [
@@ -110,7 +110,7 @@ take_turns place (suc n) bs rest e =
       by_item n bs rest r begun None i e go = absurd (none-some rest (rw (step_fails place bs r begun i) at e))
       by_item n bs rest r begun (Some next_bs) i e go = reads_more place bs next_bs rest r i (go next_bs rest (rw (step_goes place bs next_bs r begun i) at e))
 
-again_turns : (place : Place) (more : List (Item × List ℕ)) (n : ℕ) (first rest : List ℕ) → length more < n → IsRun place first → AllByRecursion (λ i. IsItem place i.0 × IsRun place i.1) more → ends_stretch rest ≡ true
+again_turns : (place : Section) (more : List (Item × List ℕ)) (n : ℕ) (first rest : List ℕ) → length more < n → IsRun place first → AllByRecursion (λ i. IsItem place i.0 × IsRun place i.1) more → ends_stretch rest ≡ true
     → turns (stretch_step place) n (first ++ items_then more rest) ≡ Some rest
 again_turns place more zero first rest lt run each end = absurd (omega arith)
 again_turns place [] (suc n) first rest lt run each end =
@@ -143,7 +143,7 @@ pub whole_then : (head : Head) (first : List ℕ) (more : List (Item × List ℕ
 whole_then head first more rest =
     head_then-append head (first ++ items_then more []) rest ∙ ap (head_then head) (append_assoc first (items_then more []) rest ∙ ap (λ (z : List ℕ). first ++ z) (items_then-append more [] rest))
 
-pub stretch_takes : (place : Place) (bs : List ℕ) (x : Piece × List ℕ) → stretch_at place bs ≡ Some x → (s : List ℕ) × (x.0 ≡ stretch s) × (bs ≡ s ++ x.1) × IsStretch place s × (ends_stretch x.1 ≡ true)
+pub stretch_takes : (place : Section) (bs : List ℕ) (x : Piece × List ℕ) → stretch_at place bs ≡ Some x → (s : List ℕ) × (x.0 ≡ stretch s) × (bs ≡ s ++ x.1) × IsStretch place s × (ends_stretch x.1 ≡ true)
 unfolding stretch_at items_end
 stretch_takes place bs x e =
     let content : List ℕ = after_head place bs in
@@ -174,7 +174,7 @@ items_long [] rest = omega arith
 items_long (i ∷ more) rest = omega (arith, items_long more rest, item_long i.0 (i.1 ++ items_then more rest), length-append i.1 (items_then more rest))
 
 -- a stretch that stands there, and ends there, is read
-pub stretch_again : (place : Place) (s rest : List ℕ) → IsStretch place s → ends_stretch rest ≡ true → stretch_at place (s ++ rest) ≡ Some (stretch s, rest)
+pub stretch_again : (place : Section) (s rest : List ℕ) → IsStretch place s → ends_stretch rest ≡ true → stretch_at place (s ++ rest) ≡ Some (stretch s, rest)
 unfolding stretch_at items_end
 stretch_again place s rest h end =
     let content : List ℕ = h.first ++ items_then h.more rest in
@@ -184,7 +184,7 @@ stretch_again place s rest h end =
     let long : length h.more < suc (length content) = omega (arith, items_long h.more rest, length-append h.first (items_then h.more rest)) in
     let read = again_turns place h.more (suc (length content)) h.first rest long h.first_run h.each end in
     rw (here, read, before-append s rest, filled-is s h.filled) refl where
-      before_root : (place : Place) → place ≡ BeforeRoot → (first : List ℕ) (more : List (Item × List ℕ)) → IsRun place first → AllByRecursion (λ i. IsItem place i.0 × IsRun place i.1) more → NoHead (first ++ items_then more rest)
+      before_root : (place : Section) → place ≡ BeforeRoot → (first : List ℕ) (more : List (Item × List ℕ)) → IsRun place first → AllByRecursion (λ i. IsItem place i.0 × IsRun place i.1) more → NoHead (first ++ items_then more rest)
       before_root BeforeRoot same first more run each = content_no_head first more rest run each end
       before_root InElement same first more run each = absurd cc
       before_root AfterRoot same first more run each = absurd cc
@@ -195,34 +195,34 @@ after_shorter : (bs : List ℕ) → length (after no_tag bs) ≤ length bs
 after_shorter bs = omega (arith, ap length (front-after no_tag bs), length-append (front no_tag bs) (after no_tag bs))
 
 -- from here the loop over a stretch's items still finds the end of the stretch
-abbrev pub Loop : Place → List ℕ → List ℕ → Type 0
+abbrev pub Loop : Section → List ℕ → List ℕ → Type 0
 Loop place left bs = Going (stretch_step place) length left (items_end place bs)
 
 -- before the first item
-pub loop_begins : (place : Place) (bs : List ℕ) → Loop place bs bs
+pub loop_begins : (place : Section) (bs : List ℕ) → Loop place bs bs
 unfolding items_end
 loop_begins place bs = begins_turns (stretch_step place) length bs
 
 -- text that may not stand here ends the search without a stretch
-pub loop_refuses : (place : Place) (left run bs : List ℕ) → Loop place left bs → run ≡ front no_tag left → is_run place run ≡ false → items_end place bs ≡ None
+pub loop_refuses : (place : Section) (left run bs : List ℕ) → Loop place left bs → run ≡ front no_tag left → is_run place run ≡ false → items_end place bs ≡ None
 loop_refuses place left run bs g f r = ends (stretch_step place) length left None (items_end place bs) g (step_refuses place left (rw (← f) r))
 
 -- where no item begins after the text, the stretch ends
-pub loop_ends : (place : Place) (left run rest bs : List ℕ) → Loop place left bs → run ≡ front no_tag left → rest ≡ after no_tag left → is_run place run ≡ true → begins_item rest ≡ false → items_end place bs ≡ Some rest
+pub loop_ends : (place : Section) (left run rest bs : List ℕ) → Loop place left bs → run ≡ front no_tag left → rest ≡ after no_tag left → is_run place run ≡ true → begins_item rest ≡ false → items_end place bs ≡ Some rest
 loop_ends place left run rest bs g f a r e =
     rw a (ends (stretch_step place) length left (Some (after no_tag left)) (items_end place bs) g (step_ends place left (rw (← f) r) (ap begins_item (sym a) ∙ e)))
 
 -- where an item begins and none can be read, there is no stretch
-pub loop_fails : (place : Place) (left run rest bs : List ℕ) → Loop place left bs → run ≡ front no_tag left → rest ≡ after no_tag left → is_run place run ≡ true → begins_item rest ≡ true → item_at place rest ≡ None → items_end place bs ≡ None
+pub loop_fails : (place : Section) (left run rest bs : List ℕ) → Loop place left bs → run ≡ front no_tag left → rest ≡ after no_tag left → is_run place run ≡ true → begins_item rest ≡ true → item_at place rest ≡ None → items_end place bs ≡ None
 loop_fails place left run rest bs g f a r e i = ends (stretch_step place) length left None (items_end place bs) g (step_fails place left (rw (← f) r) (ap begins_item (sym a) ∙ e) (rw (← a) i))
 
 -- an item that is read leaves fewer bytes
-pub loop_shrinks : (place : Place) (left rest next_bs : List ℕ) → rest ≡ after no_tag left → item_at place rest ≡ Some next_bs → length next_bs < length left
+pub loop_shrinks : (place : Section) (left rest next_bs : List ℕ) → rest ≡ after no_tag left → item_at place rest ≡ Some next_bs → length next_bs < length left
 loop_shrinks place left rest next_bs a i =
     let t = item_takes place rest next_bs i in
     omega (arith, after_shorter left, ap length a, ap length t.1, item_long t.0 next_bs)
 
 -- past the text and the item after it
-pub loop_goes : (place : Place) (left run rest next_bs bs : List ℕ) → Loop place left bs → run ≡ front no_tag left → rest ≡ after no_tag left → is_run place run ≡ true → begins_item rest ≡ true → item_at place rest ≡ Some next_bs → Loop place next_bs bs
+pub loop_goes : (place : Section) (left run rest next_bs bs : List ℕ) → Loop place left bs → run ≡ front no_tag left → rest ≡ after no_tag left → is_run place run ≡ true → begins_item rest ≡ true → item_at place rest ≡ Some next_bs → Loop place next_bs bs
 loop_goes place left run rest next_bs bs g f a r e i =
     goes_on (stretch_step place) length left next_bs (items_end place bs) g (step_goes place left next_bs (rw (← f) r) (ap begins_item (sym a) ∙ e) (rw (← a) i)) (loop_shrinks place left rest next_bs a i)

@@ -1,6 +1,6 @@
 -- The pieces of a text: a start tag, an empty tag, an end tag, and a stretch without a tag (XML 1.0, productions 39 to 44).
 use Rattle.std.specs.Prelude.{◌≡◌, ℕ, true, List, ◌∷◌, ◌++◌}
-use Rattle.redl_grammar.specs.declared.place.Place.{Place}
+use Rattle.redl_grammar.specs.declared.section.Section.{Section}
 use Rattle.redl_grammar.specs.Names.{Name, name_text, IsName}
 use Rattle.redl_grammar.specs.Tails.{IsSpace, IsTail}
 use Rattle.redl_grammar.specs.Stretches.{IsStretch, ends_stretch}
@@ -20,7 +20,7 @@ piece_then (end_tag name space) rest = 60 ∷ 47 ∷ (name_text name ++ (space +
 piece_then (stretch bs) rest = bs ++ rest
 
 -- the place matters only for stretches
-abbrev pub IsPiece : Place → Piece → Type 0
+abbrev pub IsPiece : Section → Piece → Type 0
 IsPiece place (start_tag name tail) = IsName name × IsTail tail
 IsPiece place (empty_tag name tail) = IsName name × IsTail tail
 IsPiece place (end_tag name space) = IsName name × IsSpace space
@@ -34,11 +34,11 @@ Follows (empty_tag name tail) rest = Unit {0}
 Follows (end_tag name space) rest = Unit {0}
 
 -- the bytes begin with the piece, and the rest follows it
-pub record Stands (place : Place) (bytes : List ℕ) (piece : Piece) (rest : List ℕ) : Type 0 where
+pub record Stands (place : Section) (bytes : List ℕ) (piece : Piece) (rest : List ℕ) : Type 0 where
   pub whole : bytes ≡ piece_then piece rest
   pub legal : IsPiece place piece
   pub follows : Follows piece rest
 
 -- the bytes begin with no piece
-abbrev pub HasNoPiece : Place → List ℕ → Type 0
+abbrev pub HasNoPiece : Section → List ℕ → Type 0
 HasNoPiece place bytes = (piece : Piece) (rest : List ℕ) → Stands place bytes piece rest → ⊥

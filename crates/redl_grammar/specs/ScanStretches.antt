@@ -1,7 +1,7 @@
 -- Reading a stretch from the left.
 use Rattle.std.specs.Prelude.{ℕ, suc, Bool, true, false, ◌||◌, List, [], ◌∷◌, length, Option, Some, None, if◌then◌else◌, codes}
-use Rattle.redl_grammar.specs.declared.place.Place.{Place}
-use Rattle.redl_grammar.specs.declared.place.Place.TheVariants.{BeforeRoot, InElement, AfterRoot}
+use Rattle.redl_grammar.specs.declared.section.Section.{Section}
+use Rattle.redl_grammar.specs.declared.section.Section.TheVariants.{BeforeRoot, InElement, AfterRoot}
 use Rattle.redl_grammar.specs.Characters.{is_space}
 use Rattle.redl_reading.specs.Lists.{behind, begins, past, front, after, before, is_filled, is_other}
 use Rattle.redl_reading.specs.Steps.{◌>>=◌, or_same, Turn, done, turns, go_on}
@@ -33,18 +33,18 @@ instruction_at bs = do
   if is_xml name.0 then None else instruction_end name.1
 
 -- after the `<![CDATA[`
-abbrev pub cdata_at : Place → List ℕ → Option (List ℕ)
+abbrev pub cdata_at : Section → List ℕ → Option (List ℕ)
 cdata_at InElement bs = past (codes "]]>") bs
 cdata_at BeforeRoot bs = None
 cdata_at AfterRoot bs = None
 
-abbrev pub opened_at : Place → Option (List ℕ) → Option (List ℕ) → Option (List ℕ) → Option (List ℕ)
+abbrev pub opened_at : Section → Option (List ℕ) → Option (List ℕ) → Option (List ℕ) → Option (List ℕ)
 opened_at place (Some comment) instruction cdata = comment_at comment
 opened_at place None (Some instruction) cdata = instruction_at instruction
 opened_at place None None (Some cdata) = cdata_at place cdata
 opened_at place None None None = None
 
-unfoldable pub item_at : Place → List ℕ → Option (List ℕ)
+unfoldable pub item_at : Section → List ℕ → Option (List ℕ)
 item_at place bs = opened_at place (behind (codes "<!--") bs) (behind (codes "<?") bs) (behind (codes "<![CDATA[") bs)
 
 -- ---- the head of a text
@@ -79,24 +79,24 @@ unfoldable pub after_declaration : List ℕ → List ℕ
 after_declaration bs = or_same (declaration_at bs) bs
 
 -- what follows the head
-abbrev pub after_head : Place → List ℕ → List ℕ
+abbrev pub after_head : Section → List ℕ → List ℕ
 after_head BeforeRoot bs = after_declaration (after_mark bs)
 after_head InElement bs = bs
 after_head AfterRoot bs = bs
 
 -- ---- stretches
 
-unfoldable pub stretch_step : Place → List ℕ → Turn (List ℕ) (List ℕ)
+unfoldable pub stretch_step : Section → List ℕ → Turn (List ℕ) (List ℕ)
 stretch_step place bs =
     if is_run place (front (is_other 60) bs) then
     (if begins_item (after (is_other 60) bs) then go_on (item_at place (after (is_other 60) bs)) else done (Some (after (is_other 60) bs)))
     else done None
 
 -- what follows runs and items
-unfoldable pub items_end : Place → List ℕ → Option (List ℕ)
+unfoldable pub items_end : Section → List ℕ → Option (List ℕ)
 items_end place bs = turns (stretch_step place) (suc (length bs)) bs
 
-unfoldable pub stretch_at : Place → List ℕ → Option (Piece × List ℕ)
+unfoldable pub stretch_at : Section → List ℕ → Option (Piece × List ℕ)
 stretch_at place bs = do
   rest ← items_end place (after_head place bs)
   if is_filled (before bs rest) then Some (stretch (before bs rest), rest) else None

@@ -3,8 +3,8 @@ use Rattle.std.specs.Prelude.{◌≡◌, ◌≢◌, ℕ, Bool, true, false, ◌=
 use Rattle.std.specs.List.{list_all, AllByRecursion}
 use Rattle.std.specs.Char.{is_ascii_digit}
 use Rattle.std.specs.Str.{str_eq_ignore_ascii_case, bytes_eq}
-use Rattle.redl_grammar.specs.declared.place.Place.{Place}
-use Rattle.redl_grammar.specs.declared.place.Place.TheVariants.{BeforeRoot, InElement, AfterRoot}
+use Rattle.redl_grammar.specs.declared.section.Section.{Section}
+use Rattle.redl_grammar.specs.declared.section.Section.TheVariants.{BeforeRoot, InElement, AfterRoot}
 use Rattle.redl_grammar.specs.Characters.{is_space}
 use Rattle.redl_reading.specs.Lists.{begins, behind, lacks, is_other, is_filled}
 use Rattle.redl_grammar.specs.Names.{IsWord}
@@ -14,12 +14,12 @@ use Rattle.redl_grammar.specs.Tails.{IsSpace, Attribute, attribute_then, IsQuote
 -- ---- runs
 
 -- in an element a run is character data and references, without `]]>` (productions 14 and 67); elsewhere it is white space
-abbrev pub is_run : Place → List ℕ → Bool
+abbrev pub is_run : Section → List ℕ → Bool
 is_run InElement bs = has_references bs && lacks (codes "]]>") bs
 is_run BeforeRoot bs = list_all is_space bs
 is_run AfterRoot bs = list_all is_space bs
 
-pub record IsRun (place : Place) (bs : List ℕ) : Type 0 where
+pub record IsRun (place : Section) (bs : List ℕ) : Type 0 where
   pub no_tag : list_all (is_other 60) bs ≡ true
   pub allowed : is_run place bs ≡ true
 
@@ -62,7 +62,7 @@ item_then (instruction name text) rest = codes "<?" ++ (name ++ (text ++ (codes 
 item_then (cdata text) rest = codes "<![CDATA[" ++ (text ++ (codes "]]>" ++ rest))
 
 -- CDATA is allowed only in elements
-abbrev pub IsItem : Place → Item → Type 0
+abbrev pub IsItem : Section → Item → Type 0
 IsItem place (comment text) = is_comment text ≡ true
 IsItem place (instruction name text) = IsInstruction name text
 IsItem place (cdata text) = (place ≡ InElement) × (lacks (codes "]]>") text ≡ true)
@@ -155,7 +155,7 @@ abbrev pub no_head : Head
 no_head = record { marked = false; declaration = None }
 
 -- only the stretch before the root has a head
-abbrev pub IsHead : Place → Head → Type 0
+abbrev pub IsHead : Section → Head → Type 0
 IsHead BeforeRoot h = IsDeclared h.declaration
 IsHead InElement h = h ≡ no_head
 IsHead AfterRoot h = h ≡ no_head
@@ -163,7 +163,7 @@ IsHead AfterRoot h = h ≡ no_head
 -- ---- stretches
 
 -- A stretch: a head, a run, and then items, each followed by a run. Each of them may be empty, but not the whole.
-pub record IsStretch (place : Place) (bs : List ℕ) : Type 0 where
+pub record IsStretch (place : Section) (bs : List ℕ) : Type 0 where
   pub head : Head
   pub first : List ℕ
   pub more : List (Item × List ℕ)

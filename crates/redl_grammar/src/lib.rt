@@ -7,7 +7,7 @@
 #![tactic(auto)]
 
 mod laws;
-mod place;
+mod section;
 
 pub use laws::one_piece;
-pub use place::Place;
+pub use section::Section;

@@ -1,7 +1,7 @@
 //! The authors of a package's changes, and names of locked authors that nearly agree with theirs.
 
 use crate::alike::{is_among, key_of, text_of};
-use crate::hint::add_hint_on;
+use crate::hint::add_hint_before_name;
 use bstr::ByteSlice;
 use redl_io::Text;
 use redl_markup::decode_value;
@@ -105,7 +105,7 @@ fn add_lock_hint(
     for name in &authors.names {
         let name = text_of(name);
         if is_among(alloc, &keys, key_of(alloc, name)?.as_str())? {
-            add_hint_on(
+            add_hint_before_name(
                 hints,
                 "a locked author's name differs only by case, spaces or Unicode form from that of an author who has changes here and is not locked: ",
                 name,

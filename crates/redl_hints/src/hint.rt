@@ -17,7 +17,11 @@ pub(crate) fn add_hint(hints: &mut Vec<u8>, text: &str) -> Result<(), AllocError
 }
 
 /// Adds the line of a hint with this text and, after it, a name, which is masked for a terminal. `Err` means out of memory.
-pub(crate) fn add_hint_on(hints: &mut Vec<u8>, text: &str, name: &str) -> Result<(), AllocError>
+pub(crate) fn add_hint_before_name(
+    hints: &mut Vec<u8>,
+    text: &str,
+    name: &str,
+) -> Result<(), AllocError>
     ensures { OnOk result (hints.new.items ≡ (((hints.old.items ++ codes "redline: hint: ") ++ text.now) ++ masked Field name.now) ++ codes "\n") }
 {
     hints.extend_from_slice(b"redline: hint: ")?;
@@ -27,7 +31,7 @@ pub(crate) fn add_hint_on(hints: &mut Vec<u8>, text: &str, name: &str) -> Result
 }
 
 /// The same with a name between two texts. `Err` means out of memory.
-pub(crate) fn add_hint_in(
+pub(crate) fn add_hint_around_name(
     hints: &mut Vec<u8>,
     before: &str,
     name: &str,

@@ -1,7 +1,7 @@
 //! Why a file is no journal.
 
 use crate::fetched::Ends;
-use crate::hint::{add_hint, add_hint_in};
+use crate::hint::{add_hint, add_hint_around_name};
 use crate::numbers::is_number;
 use bstr::ByteSlice;
 use itoa::Buffer;
@@ -17,7 +17,7 @@ pub(crate) fn add_journal_hint(text: &Ends, hints: &mut Vec<u8>) -> Result<(), A
         return add_hint(hints, guess);
     }
     if let Some(version) = other_version(front) {
-        return add_hint_in(
+        return add_hint_around_name(
             hints,
             "the journal is of version ",
             version,
@@ -180,5 +180,5 @@ fn add_entry_hint(number: u64, has_ranks: bool, hints: &mut Vec<u8>) -> Result<(
     } else {
         " of the journal is no entry; an entry is a sequence number, a revision, a word in small letters and the reviewer, with one tab between two"
     };
-    add_hint_in(hints, "line ", buffer.format(number), text)
+    add_hint_around_name(hints, "line ", buffer.format(number), text)
 }

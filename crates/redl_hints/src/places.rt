@@ -1,6 +1,6 @@
 //! Words that stand where the command line has no such word.
 
-use crate::hint::{add_hint, add_hint_in};
+use crate::hint::{add_hint, add_hint_around_name};
 use redl_io::Text;
 use std::alloc::AllocError;
 
@@ -53,7 +53,7 @@ fn add_item_hint(items: &[Text], hints: &mut Vec<u8>) -> Result<(), AllocError> 
                 return add_hint(hints, "a journal of decide comes after --journal");
             }
             if !option.starts_with(b"-") {
-                return add_hint_in(
+                return add_hint_around_name(
                     hints,
                     "",
                     std::str::from_utf8(option).unwrap_or(""),

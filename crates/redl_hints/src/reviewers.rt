@@ -2,7 +2,7 @@
 //! other.
 
 use crate::alike::{is_among, key_of, text_of};
-use crate::hint::add_hint_on;
+use crate::hint::add_hint_before_name;
 use bstr::ByteSlice;
 use redl_io::Text;
 use std::alloc::{AllocError, Global};
@@ -112,7 +112,7 @@ pub(crate) fn add_contradiction_hint(
     for pair in words.windows(2) {
         if contradicts(&pair[0], &pair[1]) && is_last(&words, &pair[0]) {
             return match reviewers.names.get(pair[0].reviewer) {
-                Some(name) => add_hint_on(
+                Some(name) => add_hint_before_name(
                     hints,
                     "a reviewer accepts and rejects one change with one sequence number, which is a dispute with oneself: ",
                     text_of(name),
@@ -155,7 +155,7 @@ pub(crate) fn add_alike_hint(
         let key = key_of(alloc, text_of(name))?;
         let is_own = own.is_some_and(|own| own.as_bytes() == name.as_bytes());
         if !is_own && is_among(alloc, &keys, key.as_str())? {
-            return add_hint_on(
+            return add_hint_before_name(
                 hints,
                 "the name of a reviewer differs from another one's only by case, spaces or Unicode form, and counts as another reviewer: ",
                 text_of(name),

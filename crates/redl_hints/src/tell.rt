@@ -3,13 +3,13 @@
 use crate::authors::add_lock_hints;
 use crate::choices::add_choice_hint;
 use crate::fetched::{Ends, Remembered};
+use crate::first_bytes::FirstBytes;
 use crate::hint::add_hint;
 use crate::journals::{add_journal_hint, has_no_entry};
 use crate::names::add_name_hints;
 use crate::packages::guess_of_package;
 use crate::reviewers::{add_alike_hint, add_contradiction_hint};
 use crate::rules::sentence_of_rule;
-use crate::told::Told;
 use crate::usage::add_usage_hints;
 use bstr::ByteSlice;
 use redl_io::{Sink, Text};
@@ -23,10 +23,10 @@ pub fn tell_hints<O: Sink, E: Sink>(
     words: &[Text],
     help: &str,
     remembered: &Remembered,
-    out: &Told<O>,
-    err: &mut Told<E>,
+    out: &FirstBytes<O>,
+    err: &mut FirstBytes<E>,
 ) {
-    if let Ok(hints) = hints_of(alloc, words, help, remembered, out.first(), err.first()) {
+    if let Ok(hints) = hints_of(alloc, words, help, remembered, out.bytes(), err.bytes()) {
         if !hints.is_empty() {
             let _ = err.put(&hints);
         }

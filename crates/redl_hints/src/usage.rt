@@ -1,6 +1,6 @@
 //! Words that are no command.
 
-use crate::hint::{add_hint, add_hint_on};
+use crate::hint::{add_hint, add_hint_before_name};
 use crate::places::add_place_hints;
 use crate::values::fault_of_value;
 use redl_io::Text;
@@ -87,7 +87,7 @@ fn add_command_hint(
             names.push(command)?;
             if command == name {
                 is_known = true;
-                add_hint_on(hints, "usage: redline ", usage)?;
+                add_hint_before_name(hints, "usage: redline ", usage)?;
             }
         }
     }
@@ -156,7 +156,7 @@ fn add_option_hint(
     }
     match word.split_once('=') {
         Some((name, _)) if names.iter().any(|known| *known == name) => {
-            add_hint_on(
+            add_hint_before_name(
                 hints,
                 "the value is a word of its own, with a space before it: ",
                 name,
@@ -187,7 +187,7 @@ fn add_nearest(
         }
     }
     match nearest {
-        Some(name) => add_hint_on(hints, text, name),
+        Some(name) => add_hint_before_name(hints, text, name),
         None => Ok(()),
     }
 }

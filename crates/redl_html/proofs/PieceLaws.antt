@@ -4,7 +4,7 @@ use Rattle.std.specs.Borrow.{GName}
 use Rattle.std.proofs.lemmas.List.Concat.{flat_map-append}
 use Rattle.redl_io.specs.Sink.{Puts}
 use Rattle.redl_io.specs.declared.sink.Failed.{Failed}
-use Rattle.redl_html.specs.Pieces.{Piece, piece_text, pieces_text}
+use Rattle.redl_html.specs.Pieces.{HtmlPiece, piece_text, pieces_text}
 
 -- a text by another name
 pub puts_is : {K T : Type 0} {told : K → Option (List ℕ)} {faults settled : K → ℕ} {lenders : K → List GName} {old new : K} {text other : List ℕ} {r : Result T Failed}
@@ -12,7 +12,7 @@ pub puts_is : {K T : Type 0} {told : K → Option (List ℕ)} {faults settled : 
 puts_is e p = rw e p
 
 -- the text of two lists of pieces is that of one after the other
-pub pieces_text-append : (xs ys : List Piece) → pieces_text (xs ++ ys) ≡ pieces_text xs ++ pieces_text ys
+pub pieces_text-append : (xs ys : List HtmlPiece) → pieces_text (xs ++ ys) ≡ pieces_text xs ++ pieces_text ys
 pieces_text-append xs ys = flat_map-append piece_text xs ys
 
 -- three texts before others, as a list

@@ -1,7 +1,7 @@
 -- The loop that shows the nodes with which a text begins, one after the other.
 use Rattle.std.proofs.Common.{◌≡◌, ℕ, true, false, List, [], ◌++◌, Some, Result, Ok, Err, refl, sym, ap, subst, ◌∙◌}
 use Rattle.std.specs.Prelude.{IsErrAnd}
-use Rattle.redl_grammar.specs.declared.place.Place.TheVariants.{InElement}
+use Rattle.redl_grammar.specs.declared.section.Section.TheVariants.{InElement}
 use Rattle.redl_grammar.specs.Pieces.{Piece}
 use Rattle.redl_grammar.specs.ScanPieces.{piece_at}
 use Rattle.redl_tree.specs.Model.Nodes.{Nodes}

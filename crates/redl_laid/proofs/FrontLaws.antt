@@ -5,7 +5,7 @@ use Rattle.redl_tree.specs.Model.Nodes.{Tag, Nodes, no_nodes, bytes, element, Cl
 use Rattle.redl_tree.specs.declared.kinds.Space.{Space}
 use Rattle.redl_reading.specs.Lists.{before}
 use Rattle.redl_reading.proofs.Words.{before-append}
-use Rattle.redl_grammar.specs.declared.place.Place.TheVariants.{InElement}
+use Rattle.redl_grammar.specs.declared.section.Section.TheVariants.{InElement}
 use Rattle.redl_grammar.specs.References.{is_there}
 use Rattle.redl_grammar.specs.Names.{Name, name_text}
 use Rattle.redl_grammar.specs.Pieces.{Piece, start_tag, empty_tag, end_tag, stretch, piece_then, IsPiece}

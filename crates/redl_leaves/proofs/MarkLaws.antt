@@ -13,7 +13,7 @@ use Rattle.redl_tree.specs.declared.node.Node.{Node}
 use Rattle.redl_tree.proofs.Model.Laws.{⊕_assoc, nodes_here}
 use Rattle.redl_tree.proofs.Idle.Items.{nodes_are_idle}
 use Rattle.redl_tree.proofs.Idle.Lists.{NoneIs, name_none, some_past, kids_of_all_past}
-use Rattle.redl_leaves.specs.Inside.Marks.{marks_run, marks_para, item_marks, item_marks_run, item_marks_para}
+use Rattle.redl_leaves.specs.Inside.Marks.{has_run_mark, has_para_mark, is_mark_item, is_marked_run, is_marked_para}
 
 some-⊕ : (test : Tag → Bool) (xs ys : Nodes) → some_element test (xs ⊕ ys) ≡ (some_element test xs || some_element test ys)
 some-⊕ test no_nodes ys = refl
@@ -34,28 +34,28 @@ kids-⊕ name (element tag kids rest) ys = at (is name tag) (kids-⊕ name rest 
 no_mark : NoneIs false (λ tag. is_mark tag.kind)
 no_mark tag i = ap is_mark i.kind
 
-pub run-in_front : (x : Item) (ys : Nodes) → marks_run (in_front x ys) ≡ (item_marks x || marks_run ys)
+pub run-in_front : (x : Item) (ys : Nodes) → has_run_mark (in_front x ys) ≡ (is_mark_item x || has_run_mark ys)
 run-in_front (bytes_item b) ys = refl
 run-in_front (idle_item t) ys = some_past false (λ tag. is_mark tag.kind) no_mark (idle_nodes t) ys (nodes_are_idle t)
 run-in_front (element_item tag kids) ys = refl
 
-pub para-in_front : (x : Item) (ys : Nodes) → marks_para (in_front x ys) ≡ (item_marks_run x || marks_para ys)
+pub para-in_front : (x : Item) (ys : Nodes) → has_para_mark (in_front x ys) ≡ (is_marked_run x || has_para_mark ys)
 para-in_front (bytes_item b) ys = refl
-para-in_front (idle_item t) ys = ap marks_run (kids_of_all_past false "rPr" (name_none "rPr" false refl) (idle_nodes t) ys (nodes_are_idle t))
+para-in_front (idle_item t) ys = ap has_run_mark (kids_of_all_past false "rPr" (name_none "rPr" false refl) (idle_nodes t) ys (nodes_are_idle t))
 para-in_front (element_item tag kids) ys = at (is "rPr" tag)
   where
-    at : (b : Bool) → marks_run (if b then kids ⊕ kids_of_all "rPr" ys else kids_of_all "rPr" ys) ≡ ((b && marks_run kids) || marks_para ys)
+    at : (b : Bool) → has_run_mark (if b then kids ⊕ kids_of_all "rPr" ys else kids_of_all "rPr" ys) ≡ ((b && has_run_mark kids) || has_para_mark ys)
     at true = some-⊕ (λ tag. is_mark tag.kind) kids (kids_of_all "rPr" ys)
     at false = refl
 
-pub mark-in_front : (x : Item) (ys : Nodes) → has_mark (in_front x ys) ≡ (item_marks_para x || has_mark ys)
+pub mark-in_front : (x : Item) (ys : Nodes) → has_mark (in_front x ys) ≡ (is_marked_para x || has_mark ys)
 mark-in_front (bytes_item b) ys = refl
-mark-in_front (idle_item t) ys = ap marks_para (kids_of_all_past false "pPr" (name_none "pPr" false refl) (idle_nodes t) ys (nodes_are_idle t))
+mark-in_front (idle_item t) ys = ap has_para_mark (kids_of_all_past false "pPr" (name_none "pPr" false refl) (idle_nodes t) ys (nodes_are_idle t))
 mark-in_front (element_item tag kids) ys = at (is "pPr" tag)
   where
-    at : (b : Bool) → marks_para (if b then kids ⊕ kids_of_all "pPr" ys else kids_of_all "pPr" ys) ≡ ((b && marks_para kids) || has_mark ys)
+    at : (b : Bool) → has_para_mark (if b then kids ⊕ kids_of_all "pPr" ys else kids_of_all "pPr" ys) ≡ ((b && has_para_mark kids) || has_mark ys)
     at true =
-        ap marks_run (kids-⊕ "rPr" kids (kids_of_all "pPr" ys))
+        ap has_run_mark (kids-⊕ "rPr" kids (kids_of_all "pPr" ys))
         ∙ some-⊕ (λ tag. is_mark tag.kind) (kids_of_all "rPr" kids) (kids_of_all "rPr" (kids_of_all "pPr" ys))
     at false = refl
 

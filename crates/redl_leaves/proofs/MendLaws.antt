@@ -1,6 +1,6 @@
 -- Tallies mended along a way, a slot at a time.
 use Rattle.std.proofs.Common.{◌≡◌, ◌<◌, ◌≤◌, ◌+◌, ◌-◌, ◌^◌, min, ℕ, zero, suc, List, [], ◌∷◌, Bool, true, false, length, get_or, set, drop, refl, sym, ap, ◌∙◌, arith, if◌then◌else◌}
-use Rattle.redl_tree.specs.Leaves.Living.{is_between, cut_at, goes_by_counts}
+use Rattle.redl_tree.specs.Leaves.Living.{holds_own_of_ancestor, cut_at, goes_by_counts}
 use Rattle.redl_tree.specs.Leaves.Rebuilt.{original}
 use Rattle.redl_tree.specs.Leaves.Slots.{leaf_slot, container_slot}
 use Rattle.redl_tree.specs.Leaves.Ways.{tally_of}
@@ -28,7 +28,7 @@ living-within ancestors no_states h = omega arith
 living-within ancestors (leaf_state leaf present rest) h = living-within ancestors rest h
 living-within ancestors (container_state tag tally inner rest) h =
     let few : tally.living ≤ tally.owned = omega (arith, h.0, h.1, living-within (tag ∷ ancestors) inner h.2) in
-    omega (arith, share-within (is_own ancestors tag) (is_between ancestors tag) tally.gone tally.living tally.owned few, living-within ancestors rest h.3)
+    omega (arith, share-within (is_own ancestors tag) (holds_own_of_ancestor ancestors tag) tally.gone tally.living tally.owned few, living-within ancestors rest h.3)
 
 -- ---- along a way
 
@@ -40,7 +40,7 @@ owned-retallied ancestors (zero ∷ way) (leaf_state leaf present rest) = refl
 owned-retallied ancestors (zero ∷ way) (container_state tag tally inner rest) = refl
 owned-retallied ancestors (suc n ∷ way) (leaf_state leaf present rest) = owned-retallied ancestors (n ∷ way) rest
 owned-retallied ancestors (suc n ∷ way) (container_state tag tally inner rest) =
-    ap (λ k. (if is_own ancestors tag then 1 else if is_between ancestors tag then tally.owned else 0) + k) (owned-retallied ancestors (n ∷ way) rest)
+    ap (λ k. (if is_own ancestors tag then 1 else if holds_own_of_ancestor ancestors tag then tally.owned else 0) + k) (owned-retallied ancestors (n ∷ way) rest)
 
 pub numbers-retallied : (ancestors : List Tag) (way : List ℕ) (states : States) → HasNumbers ancestors states → HasNumbers ancestors (retallied ancestors way states)
 numbers-retallied ancestors way no_states h = h
@@ -168,7 +168,7 @@ recut-owned says ancestors (zero ∷ way) (leaf_state leaf present rest) = refl
 recut-owned says ancestors (zero ∷ way) (container_state tag tally inner rest) = refl
 recut-owned says ancestors (suc n ∷ way) (leaf_state leaf present rest) = recut-owned says ancestors (n ∷ way) rest
 recut-owned says ancestors (suc n ∷ way) (container_state tag tally inner rest) =
-    ap (λ k. (if is_own ancestors tag then 1 else if is_between ancestors tag then tally.owned else 0) + k) (recut-owned says ancestors (n ∷ way) rest)
+    ap (λ k. (if is_own ancestors tag then 1 else if holds_own_of_ancestor ancestors tag then tally.owned else 0) + k) (recut-owned says ancestors (n ∷ way) rest)
 
 pub mended-recut : (says : List Say) (ancestors : List Tag) (way : List ℕ) (states : States) → HasNumbers ancestors states
     → retallied ancestors way (recut says way states) ≡ mended says ancestors way states
@@ -206,7 +206,7 @@ recut-living says ancestors (zero ∷ way) (leaf_state leaf present rest) = refl
 recut-living says ancestors (zero ∷ way) (container_state tag tally inner rest) = refl
 recut-living says ancestors (suc n ∷ way) (leaf_state leaf present rest) = recut-living says ancestors (n ∷ way) rest
 recut-living says ancestors (suc n ∷ way) (container_state tag tally inner rest) =
-    ap (λ k. (if is_own ancestors tag then one_left tally.gone else if is_between ancestors tag then tally.living else 0) + k) (recut-living says ancestors (n ∷ way) rest)
+    ap (λ k. (if is_own ancestors tag then one_left tally.gone else if holds_own_of_ancestor ancestors tag then tally.living else 0) + k) (recut-living says ancestors (n ∷ way) rest)
 
 pub numbers-recut : (says : List Say) (ancestors : List Tag) (way : List ℕ) (states : States) → HasNumbers ancestors states → HasNumbers ancestors (recut says way states)
 numbers-recut says ancestors way no_states h = h

@@ -1,7 +1,7 @@
 -- The leaf at the end of a way made anew, a slot at a time.
 use Rattle.std.proofs.Common.{◌≡◌, ◌<◌, ◌≤◌, ◌+◌, ℕ, zero, suc, List, [], ◌∷◌, length, get_or, set, drop, refl, sym, ap, ◌∙◌, arith, if◌then◌else◌}
 use Rattle.redl_tree.specs.Leaves.States.{States, no_states, leaf_state, container_state, states_owned, states_living, one_left, AreTallied}
-use Rattle.redl_tree.specs.Leaves.Living.{is_between}
+use Rattle.redl_tree.specs.Leaves.Living.{holds_own_of_ancestor}
 use Rattle.redl_tree.specs.Leaves.Ways.{tally_of, made_at}
 use Rattle.redl_tree.specs.Model.Nodes.{Tag}
 use Rattle.redl_tree.specs.Revisions.Markers.{is_own}
@@ -68,7 +68,7 @@ owned-remade says ancestors (zero ∷ way) (leaf_state leaf present rest) = refl
 owned-remade says ancestors (zero ∷ way) (container_state tag tally inner rest) = refl
 owned-remade says ancestors (suc n ∷ way) (leaf_state leaf present rest) = owned-remade says ancestors (n ∷ way) rest
 owned-remade says ancestors (suc n ∷ way) (container_state tag tally inner rest) =
-    ap (λ k. (if is_own ancestors tag then 1 else if is_between ancestors tag then tally.owned else 0) + k) (owned-remade says ancestors (n ∷ way) rest)
+    ap (λ k. (if is_own ancestors tag then 1 else if holds_own_of_ancestor ancestors tag then tally.owned else 0) + k) (owned-remade says ancestors (n ∷ way) rest)
 
 living-remade : (says : List Say) (ancestors : List Tag) (way : List ℕ) (states : States) → states_living ancestors (remade says way states) ≡ states_living ancestors states
 living-remade says ancestors way no_states = refl
@@ -78,7 +78,7 @@ living-remade says ancestors (zero ∷ way) (leaf_state leaf present rest) = ref
 living-remade says ancestors (zero ∷ way) (container_state tag tally inner rest) = refl
 living-remade says ancestors (suc n ∷ way) (leaf_state leaf present rest) = living-remade says ancestors (n ∷ way) rest
 living-remade says ancestors (suc n ∷ way) (container_state tag tally inner rest) =
-    ap (λ k. (if is_own ancestors tag then one_left tally.gone else if is_between ancestors tag then tally.living else 0) + k) (living-remade says ancestors (n ∷ way) rest)
+    ap (λ k. (if is_own ancestors tag then one_left tally.gone else if holds_own_of_ancestor ancestors tag then tally.living else 0) + k) (living-remade says ancestors (n ∷ way) rest)
 
 pub tallied-remade : (says : List Say) (ancestors : List Tag) (way : List ℕ) (states : States) → AreTallied ancestors states → AreTallied ancestors (remade says way states)
 tallied-remade says ancestors way no_states h = h

@@ -9,7 +9,7 @@ use Rattle.redl_laid.specs.declared.laid.First.TheVariants.{Bytes, Elem}
 use Rattle.redl_tree.specs.Model.View.{nodes_of, item_of}
 use Rattle.redl_tree.specs.Revisions.Markers.{is_own}
 use Rattle.redl_tree.specs.Leaves.Containers.{opens}
-use Rattle.redl_tree.specs.Leaves.Living.{is_between, owned}
+use Rattle.redl_tree.specs.Leaves.Living.{holds_own_of_ancestor, owned}
 use Rattle.redl_tree.specs.Leaves.Rebuilt.{original}
 use Rattle.redl_tree.specs.Leaves.Slots.{Slots, no_slots, leaf_slot, container_slot, Sibling, thick_sibling, open_sibling, leaf_of, siblings, slots_in, slots_from}
 use Rattle.redl_tree.specs.Leaves.States.{States, no_states, leaf_state, container_state, fresh_states, fresh_tally}
@@ -137,7 +137,7 @@ pub fresh-owned_at : (ancestors : List Tag) (slots : Slots) → owned_at (spot_o
 fresh-owned_at ancestors no_slots = refl
 fresh-owned_at ancestors (leaf_slot leaf rest) = fresh-owned_at ancestors rest
 fresh-owned_at ancestors (container_slot tag kids inner rest) =
-    ap (λ n. (if is_own ancestors tag then 1 else if is_between ancestors tag then owned (tag ∷ ancestors) inner else 0) + n) (fresh-owned_at ancestors rest)
+    ap (λ n. (if is_own ancestors tag then 1 else if holds_own_of_ancestor ancestors tag then owned (tag ∷ ancestors) inner else 0) + n) (fresh-owned_at ancestors rest)
 
 share-few : (own between : Bool) (n m : ℕ) → n ≤ m → (if own then 1 else if between then n else 0) ≤ 1 + m
 share-few true between n m few = omega arith
@@ -149,7 +149,7 @@ owned-few : (ancestors : List Tag) (slots : Slots) → owned ancestors slots ≤
 owned-few ancestors no_slots = omega arith
 owned-few ancestors (leaf_slot leaf rest) = omega (arith, owned-few ancestors rest, count-⊕ leaf.nodes (original rest))
 owned-few ancestors (container_slot tag kids inner rest) =
-    omega (arith, share-few (is_own ancestors tag) (is_between ancestors tag) (owned (tag ∷ ancestors) inner) (count (original inner)) (owned-few (tag ∷ ancestors) inner), owned-few ancestors rest)
+    omega (arith, share-few (is_own ancestors tag) (holds_own_of_ancestor ancestors tag) (owned (tag ∷ ancestors) inner) (count (original inner)) (owned-few (tag ∷ ancestors) inner), owned-few ancestors rest)
 
 pub owned-within : (ancestors : List Tag) (kids : Nodes) → owned ancestors (slots_in opens ancestors kids) ≤ count kids
 owned-within ancestors kids = omega (arith, owned-few ancestors (slots_in opens ancestors kids), ap count (original-slots opens ancestors kids))

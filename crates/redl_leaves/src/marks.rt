@@ -1,7 +1,7 @@
 //! Paragraphs whose mark has a member.
 
 ghost use Rattle.std.specs.Prelude.{◌≡◌};
-ghost use Rattle.redl_leaves.specs.Inside.Marks.{item_marks, item_marks_run, item_marks_para, marks_run, marks_para};
+ghost use Rattle.redl_leaves.specs.Inside.Marks.{is_mark_item, is_marked_run, is_marked_para, has_run_mark, has_para_mark};
 ghost use Rattle.redl_tree.specs.Leaves.Slots.{has_mark};
 ghost use Rattle.redl_tree.specs.Model.View.{nodes_of, item_of};
 
@@ -12,15 +12,15 @@ pub(crate) fn is_marked(kids: &[Node]) -> bool
     ensures { result ≡ has_mark (nodes_of kids.now) }
 {
     for kid in kids {
-        if marks_para(kid) {
+        if is_marked_para(kid) {
             return true;
         }
     }
     false
 }
 
-fn marks_para(kid: &Node) -> bool
-    ensures { result ≡ item_marks_para (item_of kid.now) }
+fn is_marked_para(kid: &Node) -> bool
+    ensures { result ≡ is_marked_para (item_of kid.now) }
 {
     match kid {
         Node::Elem(elem) => is_word(elem, Word::PPr) && marks_in_props(elem.kids()),
@@ -29,18 +29,18 @@ fn marks_para(kid: &Node) -> bool
 }
 
 fn marks_in_props(kids: &[Node]) -> bool
-    ensures { result ≡ marks_para (nodes_of kids.now) }
+    ensures { result ≡ has_para_mark (nodes_of kids.now) }
 {
     for kid in kids {
-        if marks_run(kid) {
+        if is_marked_run(kid) {
             return true;
         }
     }
     false
 }
 
-fn marks_run(kid: &Node) -> bool
-    ensures { result ≡ item_marks_run (item_of kid.now) }
+fn is_marked_run(kid: &Node) -> bool
+    ensures { result ≡ is_marked_run (item_of kid.now) }
 {
     match kid {
         Node::Elem(elem) => is_word(elem, Word::RPr) && marks_in_run(elem.kids()),
@@ -49,7 +49,7 @@ fn marks_run(kid: &Node) -> bool
 }
 
 fn marks_in_run(kids: &[Node]) -> bool
-    ensures { result ≡ marks_run (nodes_of kids.now) }
+    ensures { result ≡ has_run_mark (nodes_of kids.now) }
 {
     for kid in kids {
         if is_mark(kid) {
@@ -60,7 +60,7 @@ fn marks_in_run(kids: &[Node]) -> bool
 }
 
 fn is_mark(kid: &Node) -> bool
-    ensures { result ≡ item_marks (item_of kid.now) }
+    ensures { result ≡ is_mark_item (item_of kid.now) }
 {
     match kid {
         Node::Elem(elem) => matches!(elem.kind(), Kind::Mark(_)),

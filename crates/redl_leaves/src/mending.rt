@@ -22,7 +22,7 @@ pub(crate) struct Shift {
 
 /// Counts anew which own rows or cells of the containers on a way stay, and so which containers go.
 #[cycle(mend)]
-pub(crate) fn mend_at(slots: &mut [Slot], way: &[u32], spot: Spot) -> Shift
+pub(crate) fn recount_along(slots: &mut [Slot], way: &[u32], spot: Spot) -> Shift
     ensures { (parent : Tag) → (above : List Tag) → spot ≡ spot_of (parent ∷ above) → HasNumbers (parent ∷ above) (states_of slots.old)
         → Mends (parent ∷ above) way.now (states_of slots.old) (states_of slots.new) result }
 {
@@ -64,17 +64,17 @@ fn mend_below(container: &mut Box<Container>, way: &[u32], spot: Spot) -> Shift
     ensures { (parent : Tag) → (above : List Tag) → spot ≡ spot_of (parent ∷ above) → HasNumbersIn (parent ∷ above) (container_of container.old.value)
         → MendsIn (parent ∷ above) way.now (container_of container.old.value) (container_of container.new.value) result }
 {
-    mend_container(container, way, spot)
+    recount_container(container, way, spot)
 }
 
 #[cycle(mend)]
-fn mend_container(container: &mut Container, way: &[u32], spot: Spot) -> Shift
+fn recount_container(container: &mut Container, way: &[u32], spot: Spot) -> Shift
     ensures { (parent : Tag) → (above : List Tag) → spot ≡ spot_of (parent ∷ above) → HasNumbersIn (parent ∷ above) (container_of container.old)
         → MendsIn (parent ∷ above) way.now (container_of container.old) (container_of container.new) result }
 {
     let before = left(&container.elem, container.tally, spot);
     let inside = spot.inside(&container.elem);
-    let shift = mend_at(&mut container.slots, way, inside);
+    let shift = recount_along(&mut container.slots, way, inside);
     container.tally = counted(&container.elem, container.tally, shift, spot);
     let after = left(&container.elem, container.tally, spot);
     Shift { before, after }
@@ -87,7 +87,7 @@ fn left(elem: &Elem, tally: Tally, spot: Spot) -> u32
     if spot.is_own(elem) {
         return if tally.gone { 0 } else { 1 };
     }
-    if spot.is_between(elem) {
+    if spot.holds_own_of_ancestor(elem) {
         return tally.living;
     }
     0

@@ -290,7 +290,7 @@ fn share_of(container: &Container, spot: Spot) -> u32
     if spot.is_own(&container.elem) {
         return 1;
     }
-    if spot.is_between(&container.elem) {
+    if spot.holds_own_of_ancestor(&container.elem) {
         return container.tally.owned;
     }
     0

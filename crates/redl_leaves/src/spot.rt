@@ -104,7 +104,7 @@ impl Spot {
     }
 
     /// Whether the own rows or cells in an element are those of the table or row round it.
-    pub(crate) fn is_between(self, elem: &Elem) -> bool
+    pub(crate) fn holds_own_of_ancestor(self, elem: &Elem) -> bool
         ensures { result ≡ is_between_at self (tag_of elem.now) }
     {
         self.is_shell(elem) || (self.is_in_control() && is_word(elem, Word::SdtContent))

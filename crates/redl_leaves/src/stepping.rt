@@ -11,7 +11,7 @@ ghost use Rattle.redl_tree.specs.Model.Nodes.{Tag};
 ghost use Rattle.redl_tree.specs.Model.View.{nodes_of};
 
 use crate::cutting::recut_at;
-use crate::mending::mend_at;
+use crate::mending::recount_along;
 use crate::putting::put_at;
 use crate::slots::Slot;
 use crate::spot::Spot;
@@ -31,7 +31,7 @@ pub(crate) fn step_at<'a>(
 {
     put_at(slots, way, made, says);
     recut_at(slots, way, says);
-    mend_at(slots, way, spot);
+    recount_along(slots, way, spot);
 }
 
 /// A leaf that is made anew: the way to it, and its pass.

@@ -16,8 +16,8 @@ use Rattle.redl_tree.proofs.Idle.Items.{nodes_are_idle}
 use Rattle.redl_stamp.specs.Attribute.{attribute_value}
 use Rattle.redl_idle.specs.Shows.{shows}
 use Rattle.redl_left.specs.declared.row.Row.{Row}
-use Rattle.redl_left.specs.declared.row.Place.{Place}
-use Rattle.redl_left.specs.declared.row.Place.TheVariants.{Word, AnyWord, Inside, Part}
+use Rattle.redl_left.specs.declared.row.Where.{Where}
+use Rattle.redl_left.specs.declared.row.Where.TheVariants.{Word, AnyWord, Inside, Part}
 use Rattle.redl_left.specs.declared.row.Value.{Value}
 use Rattle.redl_left.specs.declared.row.Value.TheVariants.{Nothing, Attribute, Made, Shown, Held}
 use Rattle.redl_left.specs.declared.walk.Below.{Below}
@@ -38,7 +38,7 @@ is_space_w spaces.M h = absurd (true≢false (sym h))
 is_space_w spaces.Pkg h = absurd (true≢false (sym h))
 is_space_w spaces.Other h = absurd (true≢false (sym h))
 
-place_same : (place : Place) (p q local : List ℕ) → asks_place place p spaces.W local ≡ asks_place place q spaces.W local
+place_same : (place : Where) (p q local : List ℕ) → asks_place place p spaces.W local ≡ asks_place place q spaces.W local
 place_same (Word name) p q local = refl
 place_same AnyWord p q local = refl
 place_same (Inside outer name) p q local = refl

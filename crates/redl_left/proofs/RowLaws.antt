@@ -10,8 +10,8 @@ use Rattle.redl_left.specs.Finds.{asks, asks_place, asks_when, first_row, is_oth
 use Rattle.redl_left.specs.Names.{name_text}
 use Rattle.redl_left.specs.Search.{Agree, may_ask, may_ask_at}
 use Rattle.redl_left.specs.declared.fact.Fact.{Fact}
-use Rattle.redl_left.specs.declared.row.Place.{Place}
-use Rattle.redl_left.specs.declared.row.Place.TheVariants.{Word, AnyWord, Inside, Part}
+use Rattle.redl_left.specs.declared.row.Where.{Where}
+use Rattle.redl_left.specs.declared.row.Where.TheVariants.{Word, AnyWord, Inside, Part}
 use Rattle.redl_left.specs.declared.row.Row.{Row}
 
 -- ---- a name of another length
@@ -29,7 +29,7 @@ and_none : (a b : Bool) → b ≡ false → (a && b) ≡ false
 and_none true b e = e
 and_none false b e = refl
 
-place_none : (place : Place) (parent : List ℕ) (space : Space) (local : List ℕ) (n : ℕ) → length local ≡ n → may_ask_at n place ≡ false
+place_none : (place : Where) (parent : List ℕ) (space : Space) (local : List ℕ) (n : ℕ) → length local ≡ n → may_ask_at n place ≡ false
     → asks_place place parent space local ≡ false
 place_none (Word name) parent space local n of_n never = and_none (is_w space) (bytes_eq local (name_text name)) (other_length local (name_text name) n of_n never)
 place_none AnyWord parent space local n of_n never = absurd (true≢false never)

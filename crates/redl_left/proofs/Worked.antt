@@ -8,7 +8,7 @@ use Rattle.redl_grammar.specs.ScanTags.{attribute_in}
 use Rattle.redl_markup.specs.Attributes.{attributes_of}
 use Rattle.redl_left.specs.declared.fact.Fact.TheVariants.{Ins, CommentMark}
 use Rattle.redl_left.specs.declared.name.Name.TheVariants as names
-use Rattle.redl_left.specs.declared.row.Place.TheVariants.{Word}
+use Rattle.redl_left.specs.declared.row.Where.TheVariants.{Word}
 use Rattle.redl_left.specs.declared.row.When.TheVariants.{Always}
 use Rattle.redl_left.specs.declared.row.Value.TheVariants.{Nothing}
 use Rattle.redl_left.specs.declared.row.Row.{Row}

@@ -24,8 +24,8 @@ use Rattle.redl_tree.specs.declared.kinds.Prop.TheVariants as props
 use Rattle.redl_left.specs.Names.{name_text}
 use Rattle.redl_left.specs.declared.fact.Fact.{Fact}
 use Rattle.redl_left.specs.declared.fact.Fact.TheVariants as fact
-use Rattle.redl_left.specs.declared.row.Place.{Place}
-use Rattle.redl_left.specs.declared.row.Place.TheVariants.{Word, AnyWord, Inside, Part}
+use Rattle.redl_left.specs.declared.row.Where.{Where}
+use Rattle.redl_left.specs.declared.row.Where.TheVariants.{Word, AnyWord, Inside, Part}
 use Rattle.redl_left.specs.declared.row.When.{When}
 use Rattle.redl_left.specs.declared.row.When.TheVariants.{Always, On, Has, HasFront, Is, Begins, Separates, Spare}
 use Rattle.redl_left.specs.declared.row.Value.{Value}
@@ -49,7 +49,7 @@ abbrev pub is_part_name : Space → List ℕ → Bool
 is_part_name space local = is_pkg space && bytes_eq local (codes "part")
 
 -- by its namespace and local name, and the local name of its parent
-abbrev pub asks_place : Place → List ℕ → Space → List ℕ → Bool
+abbrev pub asks_place : Where → List ℕ → Space → List ℕ → Bool
 asks_place (Word name) parent space local = is_w space && bytes_eq local (name_text name)
 asks_place AnyWord parent space local = is_w space
 asks_place (Inside outer name) parent space local = is_other space && (bytes_eq parent (name_text outer) && bytes_eq local (name_text name))

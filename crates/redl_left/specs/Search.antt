@@ -5,8 +5,8 @@ use Rattle.redl_left.specs.Finds.{Table, first_row}
 use Rattle.redl_left.specs.Names.{name_text}
 use Rattle.redl_left.specs.Named.{named_of}
 use Rattle.redl_left.specs.declared.fact.Fact.{Fact}
-use Rattle.redl_left.specs.declared.row.Place.{Place}
-use Rattle.redl_left.specs.declared.row.Place.TheVariants.{Word, AnyWord, Inside, Part}
+use Rattle.redl_left.specs.declared.row.Where.{Where}
+use Rattle.redl_left.specs.declared.row.Where.TheVariants.{Word, AnyWord, Inside, Part}
 use Rattle.redl_left.specs.declared.row.Row.{Row}
 use Rattle.redl_left.specs.Lines.{naming}
 use Rattle.redl_left.specs.declared.rows.TheConstants.{ROWS}
@@ -14,7 +14,7 @@ use Rattle.redl_left.specs.declared.search.Search.{Search}
 use Rattle.redl_left.specs.declared.search.Search.TheVariants.{Naming, Asking}
 
 -- the row may ask for an element whose name has n bytes
-abbrev pub may_ask_at : ℕ → Place → Bool
+abbrev pub may_ask_at : ℕ → Where → Bool
 may_ask_at n (Word name) = length (name_text name) == n
 may_ask_at n AnyWord = true
 may_ask_at n (Inside outer name) = length (name_text name) == n

@@ -13,7 +13,7 @@ ghost use Rattle.redl_left.specs.Finds.{asks, asks_place, asks_when, begins_valu
 use crate::fact::Fact;
 use crate::name::Name;
 use crate::named::Named;
-use crate::row::{Place, Row, When};
+use crate::row::{Row, When, Where};
 use redl_markup::next_attribute;
 use redl_reading::skip;
 use redl_stamp::{attribute, has_attribute};
@@ -43,20 +43,20 @@ pub(crate) fn is_part_name(space: Space, local: &[u8]) -> bool
     }
 }
 
-fn asks_place(place: &Place, asked: &Asked<'_>) -> bool
+fn asks_place(place: &Where, asked: &Asked<'_>) -> bool
     ensures { result ≡ asks_place place.now asked.now.parent.now asked.now.space asked.now.local.now }
 {
     match place {
-        Place::Word(name) => match asked.space {
+        Where::Word(name) => match asked.space {
             Space::W => asked.local == name.text(),
             _ => false,
         },
-        Place::AnyWord => asked.space == Space::W,
-        Place::Inside(outer, name) => match asked.space {
+        Where::AnyWord => asked.space == Space::W,
+        Where::Inside(outer, name) => match asked.space {
             Space::Other => asked.parent == outer.text() && asked.local == name.text(),
             _ => false,
         },
-        Place::Part => is_part_name(asked.space, asked.local),
+        Where::Part => is_part_name(asked.space, asked.local),
     }
 }
 

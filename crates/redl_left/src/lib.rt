@@ -27,5 +27,5 @@ pub use fact::Fact;
 pub use left::lines;
 pub use line::Line;
 pub use name::Name;
-pub use row::{Place, Row, Value, When};
+pub use row::{Row, Value, When, Where};
 pub use rows::{NAMING, ROWS};

@@ -14,7 +14,7 @@ use crate::search::Search;
 use crate::seen::Seen;
 use crate::told::shown;
 use redl_markup::{Attribute, decode_value, is_literal, next_attribute};
-use redl_shown::{Piece, next_shown, start};
+use redl_shown::{ShownPiece, next_shown, start};
 use std::alloc::AllocError;
 
 fn is_author(search: &Search<'_>, text: &[u8]) -> bool
@@ -47,7 +47,7 @@ fn one_run(bytes: &[u8]) -> Option<&[u8]>
         return None;
     }
     match step.piece {
-        Piece::Bytes(run) => Some(run),
+        ShownPiece::Bytes(run) => Some(run),
         _ => None,
     }
 }

@@ -5,7 +5,7 @@ use crate::name::Name;
 
 /// Which elements a row asks for, by their names.
 #[derive(Clone, Copy, Debug, PartialEq, Eq)]
-pub enum Place {
+pub enum Where {
     /// Those of WordprocessingML with this local name that are in no revision.
     Word(Name),
     /// All of WordprocessingML that are in no revision.
@@ -58,7 +58,7 @@ pub struct Row {
     /// The fact.
     pub fact: Fact,
     /// Which elements, by their names.
-    pub place: Place,
+    pub place: Where,
     /// Which of these, by an attribute.
     pub when: When,
     /// What is told of them.

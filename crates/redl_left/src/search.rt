@@ -15,7 +15,7 @@ ghost use Rattle.redl_left.specs.Search.{Agree, may_ask, rows_at, table_of};
 use crate::fact::Fact;
 use crate::find::{Asked, first_row};
 use crate::named::Named;
-use crate::row::{Place, Row};
+use crate::row::{Row, Where};
 use crate::rows::{NAMING, ROWS};
 use redl_pairs::{lacks_pairs, lacks_word};
 use std::alloc::{AllocError, Global};
@@ -133,10 +133,10 @@ fn may_ask(row: &Row, size: usize) -> bool
     ensures { result ≡ may_ask size row.now }
 {
     match row.place {
-        Place::AnyWord => true,
-        Place::Word(name) => name.text().len() == size,
-        Place::Inside(_, name) => name.text().len() == size,
-        Place::Part => 4 == size,
+        Where::AnyWord => true,
+        Where::Word(name) => name.text().len() == size,
+        Where::Inside(_, name) => name.text().len() == size,
+        Where::Part => 4 == size,
     }
 }
 

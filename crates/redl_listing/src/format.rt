@@ -12,7 +12,7 @@ use crate::row::Row;
 use crate::tab_rows::TabRows;
 use crate::text_rows::TextRows;
 use crate::words_rows::WordsRows;
-use redl_formats::{ArrayFormat, LineFormat, Piece};
+use redl_formats::{ArrayFormat, ItemText, LineFormat};
 use std::alloc::AllocError;
 
 /// The format `text`.
@@ -96,7 +96,7 @@ impl Named for Box<dyn RowFormat> {
     }
 }
 
-impl<P: Piece<Row>> RowFormat for LineFormat<Row, P> {
+impl<P: ItemText<Row>> RowFormat for LineFormat<Row, P> {
     ghost format_name = { λ _. P.title };
 
     ghost rows_so_far = { λ format. format.items };
@@ -123,7 +123,7 @@ impl<P: Piece<Row>> RowFormat for LineFormat<Row, P> {
     }
 }
 
-impl<P: Piece<Row>> RowFormat for ArrayFormat<Row, P> {
+impl<P: ItemText<Row>> RowFormat for ArrayFormat<Row, P> {
     ghost format_name = { λ _. P.title };
 
     ghost rows_so_far = { λ format. format.items };

@@ -11,7 +11,7 @@ use crate::changed_rows::{put_changed, put_more};
 use crate::row::Row;
 use json::Writer;
 use redl_excerpts::LastWord;
-use redl_formats::{Piece, put_date, put_number, put_text, verdict_name, word_name};
+use redl_formats::{ItemText, put_date, put_number, put_text, verdict_name, word_name};
 use redl_io::Text;
 use std::alloc::AllocError;
 
@@ -19,7 +19,7 @@ use std::alloc::AllocError;
 #[derive(Drop)]
 pub struct FullRows;
 
-impl Piece<Row> for FullRows {
+impl ItemText<Row> for FullRows {
     ghost use Rattle.std.specs.Prelude.{codes};
     ghost use Rattle.redl_listing.specs.Full.{full_row};
 

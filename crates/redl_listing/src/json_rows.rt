@@ -6,14 +6,14 @@ ghost use Rattle.redl_listing.specs.Texts.{json_row};
 
 use crate::row::Row;
 use json::Writer;
-use redl_formats::{Piece, put_date, put_number, put_text, verdict_name};
+use redl_formats::{ItemText, put_date, put_number, put_text, verdict_name};
 use std::alloc::AllocError;
 
 /// An object for each row, with its fields by their names.
 #[derive(Drop)]
 pub struct JsonRows;
 
-impl Piece<Row> for JsonRows {
+impl ItemText<Row> for JsonRows {
     ghost use Rattle.std.specs.Prelude.{codes};
     ghost use Rattle.redl_listing.specs.Texts.{json_row};
 

@@ -3,7 +3,7 @@
 //! Read `list` first. It takes the first format with a name out of a list of boxed formats, gives it a row for each revision,
 //! closes it and hands its text out. It rests on what `RowFormat` promises, whatever boxes the caller made.
 //! `TextFormat`, `TabFormat`, `JsonFormat`, `WordsFormat` and `FullFormat` are the formats of the program: lines or an array of rows, with a
-//! `Piece` for each.
+//! `ItemText` for each.
 //! Which revisions there are and what was decided on them is left to the crates below.
 //! Its tests are whole calls, in the rows of `redl_rows`.
 #![tactic(auto)]

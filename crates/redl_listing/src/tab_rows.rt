@@ -5,14 +5,14 @@ ghost use Rattle.redl_listing.specs.Rows.{IsRow};
 ghost use Rattle.redl_listing.specs.Texts.{decided_fields, named_fields, tab_row};
 
 use crate::row::Row;
-use redl_formats::{Piece, push_date, push_escaped, push_number, verdict_name};
+use redl_formats::{ItemText, push_date, push_escaped, push_number, verdict_name};
 use std::alloc::AllocError;
 
 /// A line for each row: number, kind, verdict, date, members, part and author with tabs between.
 #[derive(Drop)]
 pub struct TabRows;
 
-impl Piece<Row> for TabRows {
+impl ItemText<Row> for TabRows {
     ghost use Rattle.std.specs.Prelude.{codes};
     ghost use Rattle.redl_listing.specs.Texts.{tab_row};
 

@@ -5,7 +5,7 @@ ghost use Rattle.redl_listing.specs.Rows.{IsRow};
 ghost use Rattle.redl_listing.specs.Texts.{decided_columns, text_row};
 
 use crate::row::Row;
-use redl_formats::{Piece, push_date, push_left, push_number, verdict_name};
+use redl_formats::{ItemText, push_date, push_left, push_number, verdict_name};
 use redl_terminal::{Extent, push_masked};
 use std::alloc::AllocError;
 
@@ -13,7 +13,7 @@ use std::alloc::AllocError;
 #[derive(Drop)]
 pub struct TextRows;
 
-impl Piece<Row> for TextRows {
+impl ItemText<Row> for TextRows {
     ghost use Rattle.std.specs.Prelude.{codes};
     ghost use Rattle.redl_listing.specs.Texts.{text_row};
 

@@ -9,7 +9,7 @@ ghost use Rattle.redl_listing.specs.Words.{closing, closing_of, in_places, insid
 
 use crate::row::Row;
 use redl_excerpts::{Detail, LastWord, Says, characters_in, shortened, without_characters};
-use redl_formats::{Piece, push_left, push_number, push_spaces, verdict_name, word_name};
+use redl_formats::{ItemText, push_left, push_number, push_spaces, verdict_name, word_name};
 use redl_join::Verdict;
 use redl_kinds::RevKind;
 use redl_terminal::{Extent, push_masked};
@@ -26,7 +26,7 @@ const BEFORE: usize = 11;
 #[derive(Drop)]
 pub struct WordsRows;
 
-impl Piece<Row> for WordsRows {
+impl ItemText<Row> for WordsRows {
     ghost use Rattle.std.specs.Prelude.{codes};
     ghost use Rattle.redl_terminal.specs.Masks.{masked};
     ghost use Rattle.redl_terminal.specs.declared.extent.Extent.TheVariants.{Field};

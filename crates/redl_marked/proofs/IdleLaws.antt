@@ -10,7 +10,7 @@ use Rattle.redl_tree.proofs.Idle.Items.{nodes_are_idle}
 use Rattle.redl_shown.specs.Shown.{shown}
 use Rattle.redl_idle.specs.Shows.{shows}
 use Rattle.redl_idle.proofs.RoleLaws.{by_local, name_same, quiet_same}
-use Rattle.redl_marked.specs.declared.summary.Summary.{Summary}
+use Rattle.redl_marked.specs.declared.summary.MarkedSummary.{MarkedSummary}
 use Rattle.redl_marked.specs.Signs.{start_sign, end_sign, mark_sign, mark_signs, run_signs, para_signs}
 use Rattle.redl_marked.specs.MarkedText.{open_start, open_end}
 use Rattle.redl_marked.specs.Inside.Idle.{inside_idle, idle_rule}
@@ -24,7 +24,7 @@ start_same in_run tag i =
     if w && bytes_eq local (codes "tab") then 9 ∷ [] else if (w && bytes_eq local (codes "br")) || ((w && bytes_eq local (codes "cr")) || false) then 10 ∷ [] else []) in_run tag i
 
 -- it has no sign, and shows what its name says
-start_idle : (above : Summary) (in_run : Bool) (tag : Tag) → Idle in_run tag → start_of above tag ≡ (if not above.quiet then open_start (of_w tag.local) else [])
+start_idle : (above : MarkedSummary) (in_run : Bool) (tag : Tag) → Idle in_run tag → start_of above tag ≡ (if not above.quiet then open_start (of_w tag.local) else [])
 start_idle above in_run tag i =
     ap (λ kind. start_sign kind tag.rev ++ (if not above.quiet then open_start tag else [])) i.kind
     ∙ ap (λ (own : List ℕ). if not above.quiet then own else []) (start_same in_run tag i)
@@ -33,13 +33,13 @@ same_both : {X : Type 0} (b : Bool) (x : X) → (if b then x else x) ≡ x
 same_both true x = refl
 same_both false x = refl
 
-end_idle : (above : Summary) (in_run : Bool) (tag : Tag) (kids : Nodes) → Idle in_run tag → end_of above tag kids ≡ []
+end_idle : (above : MarkedSummary) (in_run : Bool) (tag : Tag) (kids : Nodes) → Idle in_run tag → end_of above tag kids ≡ []
 end_idle above in_run tag kids i =
     ap (λ kind. (if not above.quiet then open_end tag kids else []) ++ end_sign kind) i.kind
     ∙ ap (λ p. (if not above.quiet then (if p then para_signs kids ++ (10 ∷ []) else []) else []) ++ []) (has-not "p" in_run tag i refl)
     ∙ ap (λ (t : List ℕ). t ++ []) (same_both (not above.quiet) [])
 
-inside_same : (above : Summary) (in_run : Bool) (tag : Tag) → Idle in_run tag → inside tag above ≡ inside_idle above tag.local
+inside_same : (above : MarkedSummary) (in_run : Bool) (tag : Tag) → Idle in_run tag → inside tag above ≡ inside_idle above tag.local
 inside_same above in_run tag i =
     ap (λ q. record { quiet = q || above.quiet; text = is_any ("t" ∷ "delText" ∷ []) tag && not above.quiet }) (quiet_same in_run tag i)
     ∙ ap (λ d. record { quiet = is "rPr" (of_w tag.local) || above.quiet; text = (is "t" tag || (d || false)) && not above.quiet }) (has-not "delText" in_run tag i refl)
@@ -47,7 +47,7 @@ inside_same above in_run tag i =
 
 -- ---- nodes
 
-shown_by : (above : Summary) (in_run : Bool) (x : Nodes) → is_idle_in in_run x ≡ true → marked above x ≡ shows idle_rule above x
+shown_by : (above : MarkedSummary) (in_run : Bool) (x : Nodes) → is_idle_in in_run x ≡ true → marked above x ≡ shows idle_rule above x
 shown_by above in_run no_nodes h = refl
 shown_by above in_run (bytes b rest) h = ap (λ (t : List ℕ). (if above.text then shown b else []) ++ t) (shown_by above in_run rest h)
 shown_by above in_run (element tag kids rest) h =
@@ -62,7 +62,7 @@ shown_by above in_run (element tag kids rest) h =
     own : Tag → List ℕ
     own tag = if not above.quiet then open_start (of_w tag.local) else []
 
-pub marked-idle : (above : Summary) (t : List ℕ) → marked above (idle_nodes t) ≡ shows idle_rule above (idle_nodes t)
+pub marked-idle : (above : MarkedSummary) (t : List ℕ) → marked above (idle_nodes t) ≡ shows idle_rule above (idle_nodes t)
 marked-idle above t = shown_by above false (idle_nodes t) (nodes_are_idle t)
 
 -- ---- signs of a mark

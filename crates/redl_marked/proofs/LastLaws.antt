@@ -13,7 +13,7 @@ use Rattle.redl_kinds.specs.declared.rev_kind.RevKind.TheVariants.{Change as Rev
 use Rattle.redl_tree.specs.Model.View.{nodes_of, item_of}
 use Rattle.redl_tree.specs.declared.node.Node.{Node}
 use Rattle.redl_tree.proofs.Model.Laws.{nodes_of-append}
-use Rattle.redl_marked.specs.declared.summary.Summary.{Summary}
+use Rattle.redl_marked.specs.declared.summary.MarkedSummary.{MarkedSummary}
 use Rattle.redl_marked.specs.Signs.{sign_begin, sign_end, opening, word_sign, change_sign, para_signs}
 use Rattle.redl_marked.specs.MarkedText.{open_end, heading}
 use Rattle.redl_marked.specs.Inside.Walks.{inside, marked, item_marked, last_of}
@@ -35,7 +35,7 @@ pub last_of-append : (xs ys : List ℕ) → last_of (xs ++ ys) ≡ option_or (la
 last_of-append xs ys = last_or-append None xs ys ∙ last_or-of (last_of xs) ys
 
 -- of a list with one node more
-pub last_of-more : (above : Summary) (xs : List Node) (i : ℕ) (x : Node) → i < length xs → x ≡ get_or xs i x
+pub last_of-more : (above : MarkedSummary) (xs : List Node) (i : ℕ) (x : Node) → i < length xs → x ≡ get_or xs i x
     → last_of (marked above (nodes_of (take (i + 1) xs))) ≡ option_or (last_of (item_marked above (item_of x))) (last_of (marked above (nodes_of (take i xs))))
 last_of-more above xs i x within is =
     let taken : take (i + 1) xs ≡ take i xs ++ (x ∷ []) = take_more xs i x within ∙ ap (λ y. take i xs ++ (y ∷ [])) (sym is) in
@@ -47,7 +47,7 @@ last_of-more above xs i x within is =
     ∙ last_of-append (marked above (nodes_of (take i xs))) (item_marked above (item_of x))
 
 -- the same where the list is gone over from its end
-pub from_end : (above : Summary) (nodes : List Node) (i k : ℕ) (x : Node) (r whole : Option ℕ) → k + 1 ≡ length nodes - i → k < length nodes → x ≡ get_or nodes k x
+pub from_end : (above : MarkedSummary) (nodes : List Node) (i k : ℕ) (x : Node) (r whole : Option ℕ) → k + 1 ≡ length nodes - i → k < length nodes → x ≡ get_or nodes k x
     → r ≡ last_of (item_marked above (item_of x)) → last_of (marked above (nodes_of (take (length nodes - i) nodes))) ≡ whole
     → option_or r (last_of (marked above (nodes_of (take k nodes)))) ≡ whole
 from_end above nodes i k x r whole next within is e inv =
@@ -91,7 +91,7 @@ last_inner xs ys zs x y r e f n h =
     last_two xs (ys ++ zs) x y r e (last_two ys zs y None y f n refl) h
 
 -- the kids of an element as the code reads them
-pub inner_last : (above inner : Summary) (tag : Tag) (kids read : Nodes) (r : Option ℕ) → inner ≡ inside tag above → read ≡ kids
+pub inner_last : (above inner : MarkedSummary) (tag : Tag) (kids read : Nodes) (r : Option ℕ) → inner ≡ inside tag above → read ≡ kids
     → r ≡ last_of (marked inner read) → r ≡ last_of (marked (inside tag above) kids)
 inner_last above inner tag kids read r e f h = h ∙ ap (λ i. last_of (marked i read)) e ∙ ap (λ n. last_of (marked (inside tag above) n)) f
 

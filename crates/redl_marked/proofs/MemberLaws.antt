@@ -50,13 +50,13 @@ part_right part xs ys h = record {
 -- ---- a sign on its way up
 
 -- it is a part of the text of these nodes, or waits for the end of the paragraph: in its `rPr`, in its `pPr`, or among its kids
-data Told (ancestors : List Tag) (nodes : Nodes) (sign : List ℕ) : Type 0 where
-  put : HasPart sign (marked_in ancestors nodes) → Told ancestors nodes sign
-  in_run : within ("rPr" ∷ "pPr" ∷ "p" ∷ []) ancestors ≡ true → HasPart sign (mark_signs nodes) → Told ancestors nodes sign
-  in_props : within ("pPr" ∷ "p" ∷ []) ancestors ≡ true → HasPart sign (run_signs nodes) → Told ancestors nodes sign
-  in_para : within ("p" ∷ []) ancestors ≡ true → HasPart sign (para_signs nodes) → Told ancestors nodes sign
+data PutOrWaits (ancestors : List Tag) (nodes : Nodes) (sign : List ℕ) : Type 0 where
+  put : HasPart sign (marked_in ancestors nodes) → PutOrWaits ancestors nodes sign
+  in_run : within ("rPr" ∷ "pPr" ∷ "p" ∷ []) ancestors ≡ true → HasPart sign (mark_signs nodes) → PutOrWaits ancestors nodes sign
+  in_props : within ("pPr" ∷ "p" ∷ []) ancestors ≡ true → HasPart sign (run_signs nodes) → PutOrWaits ancestors nodes sign
+  in_para : within ("p" ∷ []) ancestors ≡ true → HasPart sign (para_signs nodes) → PutOrWaits ancestors nodes sign
 
-told_after_bytes : (ancestors : List Tag) (b : List ℕ) (rest : Nodes) (sign : List ℕ) → Told ancestors rest sign → Told ancestors (bytes b rest) sign
+told_after_bytes : (ancestors : List Tag) (b : List ℕ) (rest : Nodes) (sign : List ℕ) → PutOrWaits ancestors rest sign → PutOrWaits ancestors (bytes b rest) sign
 told_after_bytes ancestors b rest sign (put h) = put (part_right sign (if in_text ancestors then shown b else []) (marked_in ancestors rest) h)
 told_after_bytes ancestors b rest sign (in_run w h) = in_run w h
 told_after_bytes ancestors b rest sign (in_props w h) = in_props w h
@@ -66,7 +66,7 @@ told_after_bytes ancestors b rest sign (in_para w h) = in_para w h
 abbrev element_marked : List Tag → Tag → Nodes → List ℕ
 element_marked ancestors tag kids = start_marked ancestors tag ++ (marked_in (tag ∷ ancestors) kids ++ end_marked ancestors tag kids)
 
-told_after : (ancestors : List Tag) (tag : Tag) (kids rest : Nodes) (sign : List ℕ) → Told ancestors rest sign → Told ancestors (element tag kids rest) sign
+told_after : (ancestors : List Tag) (tag : Tag) (kids rest : Nodes) (sign : List ℕ) → PutOrWaits ancestors rest sign → PutOrWaits ancestors (element tag kids rest) sign
 told_after ancestors tag kids rest sign (put h) = put (part_right sign (element_marked ancestors tag kids) (marked_in ancestors rest) h)
 told_after ancestors tag kids rest sign (in_run w h) = in_run w (part_right sign (mark_sign tag.kind tag.rev) (mark_signs rest) h)
 told_after ancestors tag kids rest sign (in_props w h) = in_props w (part_right sign (if is "rPr" tag then mark_signs kids else []) (run_signs rest) h)
@@ -76,7 +76,7 @@ if_true : (sign : List ℕ) (b : Bool) (xs : List ℕ) → b ≡ true → HasPar
 if_true sign true xs e h = h
 if_true sign false xs e h = absurd (true≢false (sym e))
 
-told_below : (ancestors : List Tag) (tag : Tag) (kids rest : Nodes) (sign : List ℕ) → Told (tag ∷ ancestors) kids sign → Told ancestors (element tag kids rest) sign
+told_below : (ancestors : List Tag) (tag : Tag) (kids rest : Nodes) (sign : List ℕ) → PutOrWaits (tag ∷ ancestors) kids sign → PutOrWaits ancestors (element tag kids rest) sign
 told_below ancestors tag kids rest sign (put h) =
     put (part_left sign (element_marked ancestors tag kids) (marked_in ancestors rest)
     (part_right sign (start_marked ancestors tag) (marked_in (tag ∷ ancestors) kids ++ end_marked ancestors tag kids)
@@ -107,25 +107,25 @@ mark_stands ancestors tag trace (inl k) e = by (fits_or_plain ancestors tag) whe
   by (inr p) = let q : Plain ≡ Mark trace = sym p ∙ sym k ∙ e in cc
 
 -- the sign of a member that has it at its start tag
-told_start : (ancestors : List Tag) (tag : Tag) (kids rest : Nodes) → mark_sign tag.kind tag.rev ≡ [] → Told ancestors (element tag kids rest) (member_sign tag)
+told_start : (ancestors : List Tag) (tag : Tag) (kids rest : Nodes) → mark_sign tag.kind tag.rev ≡ [] → PutOrWaits ancestors (element tag kids rest) (member_sign tag)
 told_start ancestors tag kids rest none =
     let sign = start_sign tag.kind tag.rev in
     let same : sign ≡ member_sign tag = sym (ap (λ t. sign ++ t) none ∙ append-nil sign) in
     let start : HasPart sign (start_marked ancestors tag) = part_left sign sign (if is_open ancestors then open_start tag else []) (part_whole sign) in
-    subst (λ (s : List ℕ). Told ancestors (element tag kids rest) s) same
+    subst (λ (s : List ℕ). PutOrWaits ancestors (element tag kids rest) s) same
     (put (part_left sign (element_marked ancestors tag kids) (marked_in ancestors rest)
     (part_left sign (start_marked ancestors tag) (marked_in (tag ∷ ancestors) kids ++ end_marked ancestors tag kids) start)))
 
 told_mark : (ancestors : List Tag) (tag : Tag) (kids rest : Nodes) → start_sign tag.kind tag.rev ≡ [] → in_mark_props ancestors ≡ true
-    → Told ancestors (element tag kids rest) (member_sign tag)
+    → PutOrWaits ancestors (element tag kids rest) (member_sign tag)
 told_mark ancestors tag kids rest none within_mark =
     let sign = mark_sign tag.kind tag.rev in
     let same : sign ≡ member_sign tag = sym (ap (λ t. t ++ sign) none) in
-    subst (λ (s : List ℕ). Told ancestors (element tag kids rest) s) same
+    subst (λ (s : List ℕ). PutOrWaits ancestors (element tag kids rest) s) same
     (in_run within_mark (part_left sign sign (mark_signs rest) (part_whole sign)))
 
 told_own : (ancestors : List Tag) (tag : Tag) (kids rest : Nodes) (kind : Kind) → Fits ancestors tag → tag.kind ≡ kind → is_member kind ≡ true
-    → Told ancestors (element tag kids rest) (member_sign tag)
+    → PutOrWaits ancestors (element tag kids rest) (member_sign tag)
 told_own ancestors tag kids rest Plain fit e m = absurd (true≢false (sym m))
 told_own ancestors tag kids rest Marker fit e m = absurd (true≢false (sym m))
 told_own ancestors tag kids rest (Content trace) fit e m = told_start ancestors tag kids rest (ap (λ kind. mark_sign kind tag.rev) e)
@@ -144,8 +144,8 @@ all_one : {X : Type 0} (P : X → Type 0) (x : X) → P x → All P (x ∷ [])
 all_one P x p zero d h = p
 all_one P x p (suc k) d h = absurd (omega (arith, h))
 
-told_in : (ancestors : List Tag) (nodes : Nodes) → AllFit ancestors nodes → All (λ (tag : Tag). Told ancestors nodes (member_sign tag)) (members_in nodes)
-told_in ancestors no_nodes fit = all_none (λ (tag : Tag). Told ancestors no_nodes (member_sign tag))
+told_in : (ancestors : List Tag) (nodes : Nodes) → AllFit ancestors nodes → All (λ (tag : Tag). PutOrWaits ancestors nodes (member_sign tag)) (members_in nodes)
+told_in ancestors no_nodes fit = all_none (λ (tag : Tag). PutOrWaits ancestors no_nodes (member_sign tag))
 told_in ancestors (bytes b rest) fit = λ k d h. told_after_bytes ancestors b rest _ (told_in ancestors rest fit k d h)
 told_in ancestors (element tag kids rest) fit =
     All-append Here (if is_member tag.kind then tag ∷ [] else []) (members_in kids ++ members_in rest) (own (is_member tag.kind) refl)
@@ -154,11 +154,11 @@ told_in ancestors (element tag kids rest) fit =
     (λ k d h. told_after ancestors tag kids rest _ (told_in ancestors rest fit.2 k d h)))
   where
     Here : Tag → Type 0
-    Here member = Told ancestors (element tag kids rest) (member_sign member)
+    Here member = PutOrWaits ancestors (element tag kids rest) (member_sign member)
 
-    own : (b : Bool) → is_member tag.kind ≡ b → All (λ (member : Tag). Told ancestors (element tag kids rest) (member_sign member)) (if b then tag ∷ [] else [])
-    own true m = all_one (λ (member : Tag). Told ancestors (element tag kids rest) (member_sign member)) tag (told_own ancestors tag kids rest tag.kind fit.0 refl m)
-    own false m = all_none (λ (member : Tag). Told ancestors (element tag kids rest) (member_sign member))
+    own : (b : Bool) → is_member tag.kind ≡ b → All (λ (member : Tag). PutOrWaits ancestors (element tag kids rest) (member_sign member)) (if b then tag ∷ [] else [])
+    own true m = all_one (λ (member : Tag). PutOrWaits ancestors (element tag kids rest) (member_sign member)) tag (told_own ancestors tag kids rest tag.kind fit.0 refl m)
+    own false m = all_none (λ (member : Tag). PutOrWaits ancestors (element tag kids rest) (member_sign member))
 
 -- ---- stories
 
@@ -167,7 +167,7 @@ root_no_para root e =
     by_names (λ t. is "p" t ≡ false) ("document" ∷ "hdr" ∷ "ftr" ∷ "footnotes" ∷ "endnotes" ∷ "comments" ∷ []) root e (refl, (refl, (refl, (refl, (refl, (refl, tt))))))
 
 -- nothing waits below the root of a story
-told_story : (root : Tag) (kids : Nodes) (sign : List ℕ) → is_story_root root ≡ true → Told (root ∷ []) kids sign → HasPart sign (marked_in (root ∷ []) kids)
+told_story : (root : Tag) (kids : Nodes) (sign : List ℕ) → is_story_root root ≡ true → PutOrWaits (root ∷ []) kids sign → HasPart sign (marked_in (root ∷ []) kids)
 told_story root kids sign r (put h) = h
 told_story root kids sign r (in_run w h) = absurd (true≢false (sym (and_parts (is "rPr" root) false w).1))
 told_story root kids sign r (in_props w h) = absurd (true≢false (sym (and_parts (is "pPr" root) false w).1))

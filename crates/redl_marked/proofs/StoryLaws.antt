@@ -7,7 +7,7 @@ use Rattle.redl_opc.specs.Elements.{Element}
 use Rattle.redl_opc.specs.Parts.{name_in, part_name, story}
 use Rattle.redl_opc.specs.Shape.{parts_of, story_of}
 use Rattle.redl_opc.proofs.WalkLaws.{part-at}
-use Rattle.redl_marked.specs.declared.summary.Summary.{Summary}
+use Rattle.redl_marked.specs.declared.summary.MarkedSummary.{MarkedSummary}
 use Rattle.redl_marked.specs.MarkedText.{NamedStory, named_story, marked_in, heading, headed, stories_marked}
 use Rattle.redl_marked.specs.Inside.Walks.{summary_of, marked, named_of, named_in}
 use Rattle.redl_marked.proofs.WalkLaws.{marked-summary}
@@ -50,7 +50,7 @@ marked-part before nodes number within =
     ap (stories_marked before) (named-part nodes number within) ∙ stories-append before (named_in nodes number) (named_from (number + 1) nodes)
 
 -- the story of a part, with its kids as the code reads them
-pub part_text : (before : Option ℕ) (nodes : Nodes) (number : ℕ) (name : List ℕ) (root : Element) (above : Summary) (read : Nodes)
+pub part_text : (before : Option ℕ) (nodes : Nodes) (number : ℕ) (name : List ℕ) (root : Element) (above : MarkedSummary) (read : Nodes)
     → part_name nodes number ≡ Some name → story nodes number ≡ Some root → above ≡ summary_of (root.tag ∷ []) → read ≡ root.kids
     → stories_marked before (named_in nodes number) ≡ heading before name ++ marked above read
 part_text before nodes number name root above read e f g h =
@@ -73,6 +73,6 @@ pub named-past : (before : Option ℕ) (nodes : Nodes) (number : ℕ) → length
 named-past before nodes number past = ap (λ parts. stories_marked before (filter_map named_story parts)) (drop_all number (parts_of nodes) past)
 
 -- the text of a story, from its kids as the code reads them
-pub story_text : (tag : Tag) (kids : Nodes) (above : Summary) (read : Nodes) → above ≡ summary_of (tag ∷ []) → read ≡ kids
+pub story_text : (tag : Tag) (kids : Nodes) (above : MarkedSummary) (read : Nodes) → above ≡ summary_of (tag ∷ []) → read ≡ kids
     → marked above read ≡ marked_in (tag ∷ []) kids
 story_text tag kids above read e f = ap (marked above) f ∙ ap (λ a. marked a kids) e ∙ sym (marked-summary (tag ∷ []) kids)

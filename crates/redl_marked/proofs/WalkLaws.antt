@@ -4,7 +4,7 @@ use Rattle.redl_tree.specs.Model.Nodes.{Tag, Nodes, no_nodes, bytes, element, It
 use Rattle.redl_tree.specs.Model.IdleTexts.{idle_nodes}
 use Rattle.redl_tree.specs.Roles.Names.{is}
 use Rattle.redl_shown.specs.Shown.{shown}
-use Rattle.redl_marked.specs.declared.summary.Summary.{Summary}
+use Rattle.redl_marked.specs.declared.summary.MarkedSummary.{MarkedSummary}
 use Rattle.redl_marked.specs.Signs.{mark_signs, run_signs, para_signs}
 use Rattle.redl_marked.specs.MarkedText.{in_text, open_end, start_marked, end_marked, marked_in}
 use Rattle.redl_marked.specs.Inside.Walks.{summary_of, inside, start_of, end_of, marked, item_marked, item_mark, item_run, item_para}
@@ -17,7 +17,7 @@ marked-summary ancestors (element tag kids rest) =
     ap (λ t. (start_marked ancestors tag ++ (t ++ end_marked ancestors tag kids)) ++ marked_in ancestors rest) (marked-summary (tag ∷ ancestors) kids)
     ∙ ap (λ t. item_marked (summary_of ancestors) (element_item tag kids) ++ t) (marked-summary ancestors rest)
 
-pub marked-⊕ : (above : Summary) (xs ys : Nodes) → marked above (xs ⊕ ys) ≡ marked above xs ++ marked above ys
+pub marked-⊕ : (above : MarkedSummary) (xs ys : Nodes) → marked above (xs ⊕ ys) ≡ marked above xs ++ marked above ys
 marked-⊕ above no_nodes ys = refl
 marked-⊕ above (bytes b rest) ys =
     ap (λ t. (if above.text then shown b else []) ++ t) (marked-⊕ above rest ys)
@@ -26,7 +26,7 @@ marked-⊕ above (element tag kids rest) ys =
     ap (λ t. item_marked above (element_item tag kids) ++ t) (marked-⊕ above rest ys)
     ∙ sym (append_assoc (item_marked above (element_item tag kids)) (marked above rest) (marked above ys))
 
-pub marked-in_front : (above : Summary) (x : Item) (rest : Nodes) → marked above (in_front x rest) ≡ item_marked above x ++ marked above rest
+pub marked-in_front : (above : MarkedSummary) (x : Item) (rest : Nodes) → marked above (in_front x rest) ≡ item_marked above x ++ marked above rest
 marked-in_front above (bytes_item b) rest = refl
 marked-in_front above (element_item tag kids) rest = refl
 marked-in_front above (idle_item t) rest = marked-⊕ above (idle_nodes t) rest
@@ -47,7 +47,7 @@ para_signs-in_front (element_item tag kids) rest = refl
 para_signs-in_front (idle_item t) rest = para_idle t rest
 
 -- an element's text, with its kids as the code reads them
-pub elem_text : (above inner : Summary) (tag : Tag) (kids read : Nodes) → inner ≡ inside tag above → read ≡ kids
+pub elem_text : (above inner : MarkedSummary) (tag : Tag) (kids read : Nodes) → inner ≡ inside tag above → read ≡ kids
     → start_of above tag ++ (marked (inside tag above) kids ++ end_of above tag kids) ≡ start_of above tag ++ (marked inner read ++ end_of above tag kids)
 elem_text above inner tag kids read e f =
     ap (λ i. start_of above tag ++ (marked i kids ++ end_of above tag kids)) (sym e)

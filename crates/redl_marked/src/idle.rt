@@ -9,7 +9,7 @@ ghost use Rattle.redl_marked.specs.Inside.Idle.{inside_idle, last_after};
 ghost use Rattle.redl_marked.specs.Inside.Walks.{marked, last_of};
 
 use crate::last::last_shown;
-use crate::summary::Summary;
+use crate::summary::MarkedSummary;
 use crate::walk::put_bytes;
 use redl_idle::{Shows, show};
 use redl_io::{Failed, Sink, put_piece};
@@ -17,12 +17,12 @@ use redl_tree::Plain;
 use redl_views::put_idle_start;
 use std::convert::Infallible;
 
-impl Summary {
+impl MarkedSummary {
     // The summary for the kids of an idle element with this local name.
-    fn inside_idle(&self, local: &[u8]) -> Summary
+    fn inside_idle(&self, local: &[u8]) -> MarkedSummary
         ensures { result ≡ inside_idle self.now local.now }
     {
-        Summary {
+        MarkedSummary {
             quiet: local == b"rPr".as_slice() || self.quiet,
             text: local == b"t".as_slice() && !self.quiet,
         }
@@ -32,7 +32,7 @@ impl Summary {
 /// Puts the marked text of idle elements with this summary of their ancestors.
 pub(crate) fn put_idle<K: Sink>(
     plain: &Plain<'_>,
-    above: Summary,
+    above: MarkedSummary,
     out: &mut K,
 ) -> Result<(), Failed>
     ensures { Puts K.told K.faults K.settled K.lenders out.old out.new (marked above (idle_nodes plain.now)) result }
@@ -40,7 +40,7 @@ pub(crate) fn put_idle<K: Sink>(
     show(plain, &above, out)
 }
 
-impl<K: Sink> Shows<K> for Summary {
+impl<K: Sink> Shows<K> for MarkedSummary {
     ghost use Rattle.redl_idle.specs.Takings.{by_puts};
     ghost use Rattle.redl_marked.specs.Inside.Idle.{idle_rule};
 
@@ -60,7 +60,7 @@ impl<K: Sink> Shows<K> for Summary {
         _tail: &[u8],
         _ahead: &[u8],
         out: &mut K,
-    ) -> Result<Summary, Failed> {
+    ) -> Result<MarkedSummary, Failed> {
         if !self.quiet {
             put_open_start(local, out)?;
         }
@@ -82,7 +82,7 @@ fn put_open_start<K: Sink>(local: &[u8], out: &mut K) -> Result<(), Failed>
 }
 
 /// The last byte of the marked text of idle elements with this summary of their ancestors. `None` exactly where they show nothing.
-pub(crate) fn last_of_idle(plain: &Plain<'_>, above: Summary) -> Option<u8>
+pub(crate) fn last_of_idle(plain: &Plain<'_>, above: MarkedSummary) -> Option<u8>
     ensures { result ≡ last_of (marked above (idle_nodes plain.now)) }
 {
     let mut last = Last { byte: None };
@@ -107,7 +107,7 @@ impl Last {
     }
 }
 
-impl Shows<Last> for Summary {
+impl Shows<Last> for MarkedSummary {
     ghost use Rattle.redl_marked.specs.Inside.Idle.{idle_rule, keeps_last};
 
     type Error = Infallible;
@@ -129,7 +129,7 @@ impl Shows<Last> for Summary {
         _tail: &[u8],
         _ahead: &[u8],
         out: &mut Last,
-    ) -> Result<Summary, Infallible> {
+    ) -> Result<MarkedSummary, Infallible> {
         if !self.quiet {
             out.go_on(last_of_open_start(local));
         }

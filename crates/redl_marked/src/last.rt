@@ -12,13 +12,13 @@ ghost use Rattle.redl_marked.specs.Inside.Walks.{marked, item_marked, inside, st
 
 use crate::idle::last_of_idle;
 use crate::signs::sign_end;
-use crate::summary::{Summary, inside};
-use redl_shown::{Piece, next_shown, start};
+use crate::summary::{MarkedSummary, inside};
+use redl_shown::{ShownPiece, next_shown, start};
 use redl_tree::{Elem, Kind, Node, Word, is_named, is_word};
 
 /// The last byte of the marked text of nodes with this summary of their ancestors. `None` exactly where they show nothing.
 #[cycle(last)]
-pub(crate) fn last_of_nodes(nodes: &[Node], above: Summary) -> Option<u8>
+pub(crate) fn last_of_nodes(nodes: &[Node], above: MarkedSummary) -> Option<u8>
     ensures { result ≡ last_of (marked above (nodes_of nodes.now)) }
 {
     for i in 0..nodes.len() {
@@ -31,7 +31,7 @@ pub(crate) fn last_of_nodes(nodes: &[Node], above: Summary) -> Option<u8>
 }
 
 #[cycle(last)]
-fn last_of_node(node: &Node, above: Summary) -> Option<u8>
+fn last_of_node(node: &Node, above: MarkedSummary) -> Option<u8>
     ensures { result ≡ last_of (item_marked above (item_of node.now)) }
 {
     match node {
@@ -43,7 +43,7 @@ fn last_of_node(node: &Node, above: Summary) -> Option<u8>
 }
 
 #[cycle(last)]
-fn last_of_elem(elem: &Elem, above: Summary) -> Option<u8>
+fn last_of_elem(elem: &Elem, above: MarkedSummary) -> Option<u8>
     ensures { result ≡ last_of (start_of above (tag_of elem.now) ++ (marked (inside (tag_of elem.now) above) (kids_of elem.now) ++ end_of above (tag_of elem.now) (kids_of elem.now))) }
 {
     match last_of_end(elem, above) {
@@ -53,7 +53,7 @@ fn last_of_elem(elem: &Elem, above: Summary) -> Option<u8>
 }
 
 // Of what an element shows at its end tag.
-fn last_of_end(elem: &Elem, above: Summary) -> Option<u8>
+fn last_of_end(elem: &Elem, above: MarkedSummary) -> Option<u8>
     ensures { result ≡ last_of (end_of above (tag_of elem.now) (kids_of elem.now)) }
 {
     last_of_end_sign(elem.kind()).or(last_of_open_end(elem, above))
@@ -68,7 +68,7 @@ fn last_of_end_sign(kind: Kind) -> Option<u8>
     }
 }
 
-fn last_of_open_end(elem: &Elem, above: Summary) -> Option<u8>
+fn last_of_open_end(elem: &Elem, above: MarkedSummary) -> Option<u8>
     ensures { result ≡ last_of (if not above.quiet then open_end (tag_of elem.now) (kids_of elem.now) else []) }
 {
     if above.quiet {
@@ -81,13 +81,13 @@ fn last_of_open_end(elem: &Elem, above: Summary) -> Option<u8>
 }
 
 // Of what an element shows at its start tag.
-fn last_of_start(elem: &Elem, above: Summary) -> Option<u8>
+fn last_of_start(elem: &Elem, above: MarkedSummary) -> Option<u8>
     ensures { result ≡ last_of (start_of above (tag_of elem.now)) }
 {
     last_of_open_start(elem, above).or(last_of_start_sign(elem.kind()))
 }
 
-fn last_of_open_start(elem: &Elem, above: Summary) -> Option<u8>
+fn last_of_open_start(elem: &Elem, above: MarkedSummary) -> Option<u8>
     ensures { result ≡ last_of (if not above.quiet then open_start (tag_of elem.now) else []) }
 {
     if above.quiet {
@@ -130,13 +130,13 @@ pub(crate) fn last_shown(bytes: &[u8]) -> Option<u8>
     last
 }
 
-fn last_of_piece(before: Option<u8>, piece: Piece<'_>) -> Option<u8>
+fn last_of_piece(before: Option<u8>, piece: ShownPiece<'_>) -> Option<u8>
     ensures { result ≡ last_or before (piece_text piece.entry) }
 {
     match piece {
-        Piece::Nothing => before,
-        Piece::Bytes(bytes) => last_or(before, bytes),
-        Piece::Character(character) => {
+        ShownPiece::Nothing => before,
+        ShownPiece::Bytes(bytes) => last_or(before, bytes),
+        ShownPiece::Character(character) => {
             last_or(before, character.encode_utf8(&mut [0; 4]).as_bytes())
         }
     }

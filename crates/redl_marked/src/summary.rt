@@ -9,7 +9,7 @@ use redl_tree::{Elem, Word, is_named, is_quiet, is_word};
 
 /// A summary of the ancestors of some nodes in their story.
 #[derive(Clone, Copy)]
-pub(crate) struct Summary {
+pub(crate) struct MarkedSummary {
     /// Some ancestor is properties, where nothing is text of the document.
     pub quiet: bool,
     /// The nearest ancestor is a text, live or deleted, and is open.
@@ -17,12 +17,12 @@ pub(crate) struct Summary {
 }
 
 /// The summary for the kids of a story's root.
-pub(crate) fn in_root(root: &Elem) -> Summary
+pub(crate) fn in_root(root: &Elem) -> MarkedSummary
     ensures { result ≡ summary_of (tag_of root.now ∷ []) }
 {
     inside(
         root,
-        Summary {
+        MarkedSummary {
             quiet: false,
             text: false,
         },
@@ -30,10 +30,10 @@ pub(crate) fn in_root(root: &Elem) -> Summary
 }
 
 /// The summary for the kids of an element with this summary.
-pub(crate) fn inside(elem: &Elem, above: Summary) -> Summary
+pub(crate) fn inside(elem: &Elem, above: MarkedSummary) -> MarkedSummary
     ensures { result ≡ inside (tag_of elem.now) above }
 {
-    Summary {
+    MarkedSummary {
         quiet: is_quiet(elem) || above.quiet,
         text: is_text(elem) && !above.quiet,
     }

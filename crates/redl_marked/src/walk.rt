@@ -9,7 +9,7 @@ ghost use Rattle.redl_marked.specs.Inside.Walks.{marked, item_marked, inside, st
 
 use crate::idle::put_idle;
 use crate::signs::{put_end_sign, put_para_signs, put_start_sign};
-use crate::summary::{Summary, inside};
+use crate::summary::{MarkedSummary, inside};
 use redl_io::{Failed, Sink, put_piece};
 use redl_shown::put_shown;
 use redl_tree::{Elem, Node, Word, is_named, is_word};
@@ -17,7 +17,11 @@ use redl_views::put_start;
 
 /// Puts the marked text of nodes with this summary of their ancestors.
 #[cycle(marked)]
-pub(crate) fn put_nodes<K: Sink>(nodes: &[Node], above: Summary, out: &mut K) -> Result<(), Failed>
+pub(crate) fn put_nodes<K: Sink>(
+    nodes: &[Node],
+    above: MarkedSummary,
+    out: &mut K,
+) -> Result<(), Failed>
     ensures { Puts K.told K.faults K.settled K.lenders out.old out.new (marked above (nodes_of nodes.now)) result }
 {
     for node in nodes {
@@ -27,7 +31,7 @@ pub(crate) fn put_nodes<K: Sink>(nodes: &[Node], above: Summary, out: &mut K) ->
 }
 
 #[cycle(marked)]
-fn put_node<K: Sink>(node: &Node, above: Summary, out: &mut K) -> Result<(), Failed>
+fn put_node<K: Sink>(node: &Node, above: MarkedSummary, out: &mut K) -> Result<(), Failed>
     ensures { Puts K.told K.faults K.settled K.lenders out.old out.new (item_marked above (item_of node.now)) result }
 {
     match node {
@@ -38,7 +42,11 @@ fn put_node<K: Sink>(node: &Node, above: Summary, out: &mut K) -> Result<(), Fai
 }
 
 /// Puts the marked text of bytes.
-pub(crate) fn put_bytes<K: Sink>(text: &[u8], above: Summary, out: &mut K) -> Result<(), Failed>
+pub(crate) fn put_bytes<K: Sink>(
+    text: &[u8],
+    above: MarkedSummary,
+    out: &mut K,
+) -> Result<(), Failed>
     ensures { Puts K.told K.faults K.settled K.lenders out.old out.new (if above.text then shown text.now else []) result }
 {
     if above.text {
@@ -48,7 +56,7 @@ pub(crate) fn put_bytes<K: Sink>(text: &[u8], above: Summary, out: &mut K) -> Re
 }
 
 #[cycle(marked)]
-fn put_elem<K: Sink>(elem: &Elem, above: Summary, out: &mut K) -> Result<(), Failed>
+fn put_elem<K: Sink>(elem: &Elem, above: MarkedSummary, out: &mut K) -> Result<(), Failed>
     ensures { Puts K.told K.faults K.settled K.lenders out.old out.new
         (start_of above (tag_of elem.now) ++ (marked (inside (tag_of elem.now) above) (kids_of elem.now) ++ end_of above (tag_of elem.now) (kids_of elem.now))) result }
 {
@@ -58,14 +66,14 @@ fn put_elem<K: Sink>(elem: &Elem, above: Summary, out: &mut K) -> Result<(), Fai
 }
 
 // Puts what an element shows at its start tag.
-fn put_elem_start<K: Sink>(elem: &Elem, above: Summary, out: &mut K) -> Result<(), Failed>
+fn put_elem_start<K: Sink>(elem: &Elem, above: MarkedSummary, out: &mut K) -> Result<(), Failed>
     ensures { Puts K.told K.faults K.settled K.lenders out.old out.new (start_of above (tag_of elem.now)) result }
 {
     put_start_sign(elem, out)?;
     put_start_text(elem, above, out)
 }
 
-fn put_start_text<K: Sink>(elem: &Elem, above: Summary, out: &mut K) -> Result<(), Failed>
+fn put_start_text<K: Sink>(elem: &Elem, above: MarkedSummary, out: &mut K) -> Result<(), Failed>
     ensures { Puts K.told K.faults K.settled K.lenders out.old out.new (if not above.quiet then open_start (tag_of elem.now) else []) result }
 {
     if above.quiet {
@@ -84,14 +92,14 @@ fn put_open_start<K: Sink>(elem: &Elem, out: &mut K) -> Result<(), Failed>
 }
 
 // Puts what an element shows at its end tag.
-fn put_elem_end<K: Sink>(elem: &Elem, above: Summary, out: &mut K) -> Result<(), Failed>
+fn put_elem_end<K: Sink>(elem: &Elem, above: MarkedSummary, out: &mut K) -> Result<(), Failed>
     ensures { Puts K.told K.faults K.settled K.lenders out.old out.new (end_of above (tag_of elem.now) (kids_of elem.now)) result }
 {
     put_end_text(elem, above, out)?;
     put_end_sign(elem, out)
 }
 
-fn put_end_text<K: Sink>(elem: &Elem, above: Summary, out: &mut K) -> Result<(), Failed>
+fn put_end_text<K: Sink>(elem: &Elem, above: MarkedSummary, out: &mut K) -> Result<(), Failed>
     ensures { Puts K.told K.faults K.settled K.lenders out.old out.new (if not above.quiet then open_end (tag_of elem.now) (kids_of elem.now) else []) result }
 {
     if above.quiet {

@@ -7,7 +7,7 @@ use Rattle.std.specs.Str.{IsUtf8, chars, encode_utf8_all}
 use Rattle.std.proofs.lemmas.Bool.Decides.{nat_tests}
 use Rattle.std.proofs.lemmas.Str.{chars-encodes, encodes-chars}
 use lib.Utf8.{scalar, scalars, encode}
-use Rattle.redl_reading.proofs.Runs.{passes-parts}
+use Rattle.redl_reading.proofs.Runs.{list_all-parts}
 use Rattle.redl_grammar.specs.Characters.{is_character, is_plain_byte, IsText}
 
 pub character_scalar : (c : ℕ) → is_character c ≡ true → scalar c ≡ true
@@ -74,7 +74,7 @@ plain_chars : (cs : List ℕ) → scalars cs ≡ true → list_all is_plain_byte
 plain_chars [] s h = refl
 plain_chars (c ∷ cs) s h =
     let are = and_parts (scalar c) (scalars cs) s in
-    let parts = passes-parts is_plain_byte (encode_utf8 c) (encode_utf8_all cs) h in
+    let parts = list_all-parts is_plain_byte (encode_utf8 c) (encode_utf8_all cs) h in
     and_from _ _ (plain_char c are.0 parts.0) (plain_chars cs are.1 parts.1)
 
 pub plain_text : (bs : List ℕ) → IsUtf8 bs → list_all is_plain_byte bs ≡ true → IsText bs

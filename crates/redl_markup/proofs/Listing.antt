@@ -11,7 +11,7 @@ use Rattle.redl_grammar.specs.Tails.{IsSpace, Attribute, attribute_then, attribu
 use Rattle.redl_grammar.specs.ScanNames.{name_at, char_at, word_at}
 use Rattle.redl_grammar.specs.ScanTags.{attribute_at, attribute_in, Tail, attributes_at}
 use Rattle.redl_markup.specs.Attributes.{attributes_by, attributes_from, attributes_of, names_in}
-use Rattle.redl_reading.proofs.Runs.{after_again, passes-parts}
+use Rattle.redl_reading.proofs.Runs.{after_again, list_all-parts}
 use Rattle.std.proofs.lemmas.Bool.{cases_Bool, and_parts, and_from}
 use Rattle.redl_reading.proofs.Words.{before-append}
 use Rattle.redl_grammar.proofs.Attributes.{first_again, first_shorter, tail_takes_turns, first_takes}
@@ -91,15 +91,15 @@ name_passes p name = list_all p name.prefix && list_all p name.local
 text_passes : (p : ℕ → Bool) (prefix local : List ℕ) → list_all p (name_text (record { prefix = prefix; local = local })) ≡ true → (list_all p prefix && list_all p local) ≡ true
 text_passes p [] local h = h
 text_passes p (b ∷ bs) local h =
-    let both = passes-parts p (b ∷ bs) (58 ∷ local) h in
+    let both = list_all-parts p (b ∷ bs) (58 ∷ local) h in
     and_from (list_all p (b ∷ bs)) (list_all p local) both.0 (and_parts (p 58) (list_all p local) both.1).1
 
 first_passes : (p : ℕ → Bool) (a : Attribute) (rest : List ℕ) → list_all p (attribute_then a rest) ≡ true → (name_passes p a.name ≡ true) × (list_all p rest ≡ true)
 first_passes p a rest h =
-    let named = passes-parts p (name_text a.name) _ (passes-parts p a.gap _ h).1 in
-    let equated = (and_parts (p 61) _ (passes-parts p a.left _ named.1).1).1 in
-    let quoted = (and_parts (p a.quote) _ (passes-parts p a.right _ equated).1).1 in
-    (text_passes p a.name.prefix a.name.local named.0, (and_parts (p a.quote) _ (passes-parts p a.value _ quoted).1).1)
+    let named = list_all-parts p (name_text a.name) _ (list_all-parts p a.gap _ h).1 in
+    let equated = (and_parts (p 61) _ (list_all-parts p a.left _ named.1).1).1 in
+    let quoted = (and_parts (p a.quote) _ (list_all-parts p a.right _ equated).1).1 in
+    (text_passes p a.name.prefix a.name.local named.0, (and_parts (p a.quote) _ (list_all-parts p a.value _ quoted).1).1)
 
 names_pass_from : (p : ℕ → Bool) (n : ℕ) (tail : List ℕ) → list_all p tail ≡ true → list_all (λ a. name_passes p a.0) (attributes_from n tail) ≡ true
 names_pass_from p zero tail h = refl

@@ -6,7 +6,7 @@ use Rattle.std.proofs.lemmas.Bool.{and_parts, and_from}
 use Rattle.std.proofs.lemmas.List.{append-nil}
 use Rattle.redl_reading.specs.Lists.{front, after, begins, lacks, is_filled, is_other, is_none_of}
 use Rattle.redl_reading.proofs.Runs.{front-after, front_passes}
-use Rattle.redl_grammar.specs.declared.place.Place.TheVariants.{InElement}
+use Rattle.redl_grammar.specs.declared.section.Section.TheVariants.{InElement}
 use Rattle.redl_grammar.specs.References.{is_there, reference_at, has_references}
 use Rattle.redl_grammar.specs.Stretches.{no_head, IsRun, IsStretch, ends_stretch}
 use Rattle.redl_grammar.specs.Pieces.{stretch}

@@ -7,7 +7,7 @@ use Rattle.std.proofs.lemmas.Bool.{eqb-true, and_parts}
 use Rattle.std.proofs.lemmas.Bool.Decides.{nat_tests}
 use Rattle.std.proofs.lemmas.List.{take_at, drop_at, get_or_at}
 use Rattle.std.proofs.lemmas.Str.{IsUtf8-nil, IsUtf8-take, IsUtf8-drop, IsCharBoundary-before_ascii, IsCharBoundary-after_ascii}
-use Rattle.redl_grammar.specs.declared.place.Place.{Place}
+use Rattle.redl_grammar.specs.declared.section.Section.{Section}
 use Rattle.redl_grammar.specs.Characters.{is_space}
 use Rattle.redl_reading.specs.Steps.{Gives}
 use Rattle.redl_grammar.specs.Names.{Name, name_text, IsWord}
@@ -115,7 +115,7 @@ TailIsUtf8 (end_tag name space) = Unit {0}
 TailIsUtf8 (stretch bs) = Unit {0}
 
 -- if the bytes are UTF-8, so are the tail of the tag with which they begin and what follows the piece
-pub piece_is_utf8 : (place : Place) (bs : List ℕ) (p : Piece) (rest : List ℕ) → Stands place bs p rest → IsUtf8 bs → IsUtf8 rest × TailIsUtf8 p
+pub piece_is_utf8 : (place : Section) (bs : List ℕ) (p : Piece) (rest : List ℕ) → Stands place bs p rest → IsUtf8 bs → IsUtf8 rest × TailIsUtf8 p
 piece_is_utf8 place bs (start_tag name tail) rest h u =
     let P : List ℕ → Type 0 = λ z. IsUtf8 z in
     let t = start_is_utf8 (name_text name) tail 62 rest (omega arith) h.legal.1 (subst P h.whole u) in

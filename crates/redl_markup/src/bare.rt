@@ -3,7 +3,7 @@
 ghost use Rattle.std.specs.Prelude.{◌≡◌, ◌++◌, true};
 ghost use Rattle.redl_reading.specs.Lists.{before};
 ghost use Rattle.redl_reading.specs.Steps.{Gives};
-ghost use Rattle.redl_grammar.specs.declared.place.Place.TheVariants.{InElement};
+ghost use Rattle.redl_grammar.specs.declared.section.Section.TheVariants.{InElement};
 ghost use Rattle.redl_grammar.specs.Names.{name_text};
 ghost use Rattle.redl_grammar.specs.References.{is_there};
 ghost use Rattle.redl_grammar.specs.ScanTags.{attributes_end, tail_at, tag_at};
@@ -17,7 +17,7 @@ use crate::name::{Name, whole_name};
 use crate::space::spaces;
 use crate::stretch::stretch;
 use crate::tag::{end_tag, is_at_end};
-use redl_grammar::Place;
+use redl_grammar::Section;
 use redl_reading::{before, skip};
 use std::marker::Model;
 
@@ -141,7 +141,7 @@ pub fn known_piece(bytes: &[u8]) -> Option<(BarePiece<'_>, &[u8])>
     match skip(bytes, b"<") {
         Some(rest) if !begins_item(bytes) => known_tag(rest),
         _ => {
-            let (stretch, rest) = stretch(bytes, Place::InElement)?;
+            let (stretch, rest) = stretch(bytes, Section::InElement)?;
             Some((BarePiece::Stretch(stretch), rest))
         }
     }

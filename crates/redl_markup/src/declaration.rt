@@ -9,7 +9,7 @@ ghost use Rattle.redl_grammar.specs.ScanStretches.{setting_at, optional_after, v
 
 use crate::attribute::equated;
 use crate::space::spaces;
-use redl_grammar::Place;
+use redl_grammar::Section;
 use redl_reading::skip;
 
 // White space, a word, a `=` and a text between quotes: that text, and the bytes after it.
@@ -111,11 +111,11 @@ fn after_declaration(bytes: &[u8]) -> &[u8]
 }
 
 /// The bytes after the head. Only the stretch before the root has one.
-pub(crate) fn after_head(bytes: &[u8], place: Place) -> &[u8]
+pub(crate) fn after_head(bytes: &[u8], place: Section) -> &[u8]
     ensures { result.now ≡ after_head place bytes.now }
 {
     match place {
-        Place::BeforeRoot => after_declaration(after_mark(bytes)),
-        Place::InElement | Place::AfterRoot => bytes,
+        Section::BeforeRoot => after_declaration(after_mark(bytes)),
+        Section::InElement | Section::AfterRoot => bytes,
     }
 }

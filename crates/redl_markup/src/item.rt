@@ -7,7 +7,7 @@ ghost use Rattle.redl_grammar.specs.ScanStretches.{comment_at, begins_with_space
 
 use crate::name::word;
 use crate::space::is_space;
-use redl_grammar::Place;
+use redl_grammar::Section;
 use redl_reading::{past, skip};
 
 // The bytes after a comment, given those after its `<!--`.
@@ -59,18 +59,18 @@ fn instruction(bytes: &[u8]) -> Option<&[u8]>
 }
 
 // The bytes after a CDATA section, given those after its `<![CDATA[`.
-fn cdata(bytes: &[u8], place: Place) -> Option<&[u8]>
+fn cdata(bytes: &[u8], place: Section) -> Option<&[u8]>
     ensures { Gives (λ rest. rest.now) result (cdata_at place bytes.now) }
 {
     match place {
-        Place::InElement => past(bytes, b"]]>"),
-        Place::BeforeRoot | Place::AfterRoot => None,
+        Section::InElement => past(bytes, b"]]>"),
+        Section::BeforeRoot | Section::AfterRoot => None,
     }
 }
 
 /// The bytes after a comment, an instruction or a CDATA section.
 #[tactic(auto, unfolding(redl_grammar::specs::ScanStretches::item_at))]
-pub(crate) fn item(bytes: &[u8], place: Place) -> Option<&[u8]>
+pub(crate) fn item(bytes: &[u8], place: Section) -> Option<&[u8]>
     ensures { Gives (λ rest. rest.now) result (item_at place bytes.now) }
 {
     if let Some(text) = skip(bytes, b"<!--") {

@@ -12,7 +12,7 @@ use crate::name::Name;
 use crate::piece::Piece;
 use crate::stretch::stretch;
 use crate::tag::{end_tag, start_tag};
-use redl_grammar::Place;
+use redl_grammar::Section;
 use redl_reading::skip;
 use std::alloc::Global;
 
@@ -22,7 +22,7 @@ fn read_piece<'a>(
     alloc: Global,
     list: &mut Vec<Name<'a>>,
     bytes: &'a [u8],
-    place: Place,
+    place: Section,
 ) -> Result<(Piece<'a>, &'a [u8]), MarkupError>
     ensures { Finds (λ x. (piece_view x.0, x.1.now)) result (piece_at place bytes.entry.now) }
 {
@@ -52,7 +52,7 @@ pub fn next_piece<'a>(
     alloc: Global,
     list: &mut Vec<Name<'a>>,
     bytes: &'a [u8],
-    place: Place,
+    place: Section,
 ) -> Result<(Piece<'a>, &'a [u8]), MarkupError>
     ensures found { IfOk result (λ x. Stands place bytes.entry.now (piece_view x.0) x.1.now) }
     ensures unreadable { IsErrOf result MarkupError.Unreadable → HasNoPiece place bytes.entry.now }

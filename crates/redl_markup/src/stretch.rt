@@ -8,14 +8,14 @@ ghost use Rattle.redl_reading.specs.Steps.{Gives};
 ghost use Rattle.redl_grammar.specs.Stretches.{is_run, ends_stretch};
 ghost use Rattle.redl_grammar.specs.ScanStretches.{items_end, stretch_at};
 ghost use Rattle.redl_grammar.specs.Pieces.{stretch as a_stretch};
-ghost use Rattle.redl_grammar.specs.declared.place.Place.TheVariants.{InElement};
+ghost use Rattle.redl_grammar.specs.declared.section.Section.TheVariants.{InElement};
 
 use crate::declaration::after_head;
 use crate::item::{begins_item, item};
 use crate::near::near_until_any;
 use crate::reference::are_references;
 use crate::space::is_space;
-use redl_grammar::Place;
+use redl_grammar::Section;
 use redl_reading::{before, far_until};
 
 #[tactic(auto, using(redl_reading::proofs::Words::lacks_after, redl_reading::proofs::Runs::after_fits))]
@@ -38,17 +38,17 @@ fn is_all_space(bytes: &[u8]) -> bool
     bytes.iter().all(|b| is_space(*b))
 }
 
-fn is_run(bytes: &[u8], place: Place) -> bool
+fn is_run(bytes: &[u8], place: Section) -> bool
     ensures { result ≡ is_run place bytes.now }
 {
     match place {
-        Place::InElement => are_references(bytes) && has_no_close(bytes),
-        Place::BeforeRoot | Place::AfterRoot => is_all_space(bytes),
+        Section::InElement => are_references(bytes) && has_no_close(bytes),
+        Section::BeforeRoot | Section::AfterRoot => is_all_space(bytes),
     }
 }
 
 // The bytes after runs and items.
-fn end_of_items(bytes: &[u8], place: Place) -> Option<&[u8]>
+fn end_of_items(bytes: &[u8], place: Section) -> Option<&[u8]>
     ensures { Gives (λ rest. rest.now) result (items_end place bytes.now) }
 {
     let mut rest = bytes;
@@ -87,10 +87,10 @@ fn ends_stretch(bytes: &[u8]) -> bool
 
 /// The longest stretch without a tag, and the bytes after it.
 #[tactic(auto, unfolding(redl_grammar::specs::ScanStretches::stretch_at))]
-pub(crate) fn stretch(bytes: &[u8], place: Place) -> Option<(&[u8], &[u8])>
+pub(crate) fn stretch(bytes: &[u8], place: Section) -> Option<(&[u8], &[u8])>
     ensures { Gives (λ x. (a_stretch x.0.now, x.1.now)) result (stretch_at place bytes.now) }
 {
-    if let Place::InElement = place {
+    if let Section::InElement = place {
         // Most stretches in elements are plain text.
         if let Some((text, rest)) = plain_stretch(bytes) {
             return Some((text, rest));

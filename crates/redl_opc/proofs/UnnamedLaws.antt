@@ -196,9 +196,9 @@ pub several : (ns : Nodes) (x : Item) (rest : Nodes) → elements_of ns ≡ elem
 several ns x rest same some more =
     subst IsUnnamed (sym (only-first ns x rest same some ∙ ap (λ b. if b then None else only_element (in_front x no_nodes)) more)) tt
 
-pub alone : (ns : Nodes) (x : Item) (rest : Nodes) → elements_of ns ≡ elements_of (in_front x rest) → has_element (in_front x no_nodes) ≡ true
+pub only-one : (ns : Nodes) (x : Item) (rest : Nodes) → elements_of ns ≡ elements_of (in_front x rest) → has_element (in_front x no_nodes) ≡ true
     → has_element rest ≡ false → only_element ns ≡ only_element (in_front x no_nodes)
-alone ns x rest same some none =
+only-one ns x rest same some none =
     only-first ns x rest same some ∙ ap (λ b. if b then None else only_element (in_front x no_nodes)) none
 
 element_is : (x : Item) (e : Element) → element_in (Some x) ≡ Some e → only_element (in_front x no_nodes) ≡ Some e

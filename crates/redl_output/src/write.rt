@@ -90,7 +90,7 @@ fn write_start<K: Sink>(tag: &Tag, out: &mut K) -> Result<(), Failed>
 fn write_inside<K: Sink>(tag: &Tag, out: &mut K) -> Result<(), Failed>
     ensures { Puts K.told K.faults K.settled K.lenders out.old out.new (name_text tag.now.prefix tag.now.local ++ tag.now.tail) result }
 {
-    match tag.text_read() {
+    match tag.text_in_input() {
         Some(text) => put_piece(text, out),
         None => write_renamed(tag, out),
     }
@@ -115,7 +115,7 @@ fn write_end<K: Sink>(tag: &Tag, white: &[u8], out: &mut K) -> Result<(), Failed
 fn write_name<K: Sink>(tag: &Tag, out: &mut K) -> Result<(), Failed>
     ensures { Puts K.told K.faults K.settled K.lenders out.old out.new (name_text tag.now.prefix tag.now.local) result }
 {
-    match tag.name_read() {
+    match tag.name_in_input() {
         Some(name) => put_piece(name, out),
         None => write_live_name(tag, out),
     }

@@ -14,7 +14,7 @@ use Rattle.redl_join.specs.declared.verdict.Verdict.{Verdict}
 use Rattle.redl_formats.specs.Dates.{date_text}
 use Rattle.redl_page.specs.Changes.{opens_item, has_item, change, change_head, change_state, changes, properties, rank_words, saying, saying_end, saying_start, verdict_before, word_after, word_before, locked_before}
 use Rattle.redl_html.specs.Escaping.{escaped}
-use Rattle.redl_html.specs.Pieces.{Piece, own, pieces_text}
+use Rattle.redl_html.specs.Pieces.{HtmlPiece, own, pieces_text}
 use Rattle.redl_html.proofs.NumberLaws.{has-left, has-right}
 use Rattle.redl_html.proofs.PieceLaws.{pieces_text-append}
 
@@ -23,7 +23,7 @@ use Rattle.redl_html.proofs.PieceLaws.{pieces_text-append}
 pub change-text : (revision : Revision) (verdict : Verdict) (locked : Bool) (said : List ℕ) (words : List Entry) → pieces_text (change revision verdict locked said words)
     ≡ pieces_text (change_head revision) ++ (pieces_text (change_state verdict locked) ++ (pieces_text (properties said) ++ (pieces_text (flat_map saying words) ++ codes "</li>\n")))
 change-text revision verdict locked said words =
-    let sayings : List Piece = flat_map saying words ++ (own "</li>\n" ∷ []) in
+    let sayings : List HtmlPiece = flat_map saying words ++ (own "</li>\n" ∷ []) in
     pieces_text-append (change_head revision) (change_state verdict locked ++ (properties said ++ sayings))
     ∙ ap (λ l. pieces_text (change_head revision) ++ l) (
     pieces_text-append (change_state verdict locked) (properties said ++ sayings)

@@ -6,7 +6,7 @@ use Rattle.redl_shown.specs.Shown.{shown}
 use Rattle.redl_page.specs.Changes.{changes, reviewers}
 use Rattle.redl_page_stories.specs.Document.{sections}
 use Rattle.redl_page.specs.Page.{Heading, Shown, Skin, before_changes, before_policy, before_style, body, body_head, body_start, head_text, heading_attributes, lists, rank_attribute, reviewer_list, title_attribute, title_piece}
-use Rattle.redl_html.specs.Pieces.{Piece, own, piece_text, pieces_text}
+use Rattle.redl_html.specs.Pieces.{HtmlPiece, own, piece_text, pieces_text}
 use Rattle.redl_html.proofs.PieceLaws.{pieces_text-append}
 
 pub head-text : (skin : Skin) (title : Option (List ℕ)) → head_text skin title
@@ -22,7 +22,7 @@ head-text skin title =
 pub body_head-text : (digest : List ℕ) (count : ℕ) (heading : Heading) → pieces_text (body_head digest count heading)
     ≡ pieces_text (body_start digest count) ++ (pieces_text (heading_attributes heading) ++ codes "\">\n<main lang=\"\">\n")
 body_head-text digest count heading =
-    let end : List Piece = own "\">\n<main lang=\"\">\n" ∷ [] in
+    let end : List HtmlPiece = own "\">\n<main lang=\"\">\n" ∷ [] in
     pieces_text-append (body_start digest count) (heading_attributes heading ++ end)
     ∙ ap (λ l. pieces_text (body_start digest count) ++ l) (pieces_text-append (heading_attributes heading) end)
 

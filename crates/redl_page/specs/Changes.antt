@@ -14,7 +14,7 @@ use Rattle.redl_join.specs.Verdicts.{verdict_at, greatest_seq}
 use Rattle.redl_join.specs.declared.verdict.Verdict.{Verdict}
 use Rattle.redl_join.specs.declared.verdict.Verdict.TheVariants as verdict
 use Rattle.redl_formats.specs.Dates.{date_text}
-use Rattle.redl_html.specs.Pieces.{Piece, own, number, outside, ends_in, has_number}
+use Rattle.redl_html.specs.Pieces.{HtmlPiece, own, number, outside, ends_in, has_number}
 
 -- ---- a revision
 
@@ -30,16 +30,16 @@ word_after Reject = "</bdi>: rejected"
 word_after Withdraw = "</bdi>: withdrawn"
 
 -- the rank in words, but for the lowest one
-abbrev pub rank_words : ℕ → List Piece
+abbrev pub rank_words : ℕ → List HtmlPiece
 rank_words rank = if rank == 0 then [] else own " with rank " ∷ number rank ∷ []
 
-abbrev pub saying_start : Entry → List Piece
+abbrev pub saying_start : Entry → List HtmlPiece
 saying_start entry = own (word_before entry.word) ∷ number entry.rank ∷ own "\"><bdi>" ∷ outside entry.reviewer ∷ []
 
-abbrev pub saying_end : Word → ℕ → List Piece
+abbrev pub saying_end : Word → ℕ → List HtmlPiece
 saying_end word rank = own (word_after word) ∷ (rank_words rank ++ (own "</p>" ∷ []))
 
-abbrev pub saying : Entry → List Piece
+abbrev pub saying : Entry → List HtmlPiece
 saying entry = saying_start entry ++ saying_end entry.word entry.rank
 
 -- what was decided on it, and whether it is locked
@@ -54,24 +54,24 @@ locked_before true = "yes\">"
 locked_before false = "no\">"
 
 -- its number, kind, author and date
-abbrev pub change_head : Revision → List Piece
+abbrev pub change_head : Revision → List HtmlPiece
 change_head revision =
     own "<li id=\"revision-" ∷ number revision.number ∷ own "\" data-kind=\"" ∷ outside (kind_name revision.kind)
     ∷ own "\" data-author=\"" ∷ outside revision.author ∷ own "\" data-date=\"" ∷ outside (date_text revision.seconds) ∷ []
 
-abbrev pub change_state : Verdict → Bool → List Piece
+abbrev pub change_state : Verdict → Bool → List HtmlPiece
 change_state verdict locked = own (verdict_before verdict) ∷ own (locked_before locked) ∷ []
 
 -- what a change of properties changes, in these words; without words there is nothing
-abbrev pub properties : List ℕ → List Piece
+abbrev pub properties : List ℕ → List HtmlPiece
 properties said = if length said == 0 then [] else own "<p class=\"changed\"><bdi>" ∷ outside said ∷ own "</bdi></p>" ∷ []
 
-abbrev pub change : Revision → Verdict → Bool → List ℕ → List Entry → List Piece
+abbrev pub change : Revision → Verdict → Bool → List ℕ → List Entry → List HtmlPiece
 change revision verdict locked said words =
     change_head revision ++ (change_state verdict locked ++ (properties said ++ (flat_map saying words ++ (own "</li>\n" ∷ []))))
 
 -- the revisions of a package, where these are locked or not and these words say what they change, under the entries of a book
-abbrev pub changes : List Entry → List Revision → List Bool → List (List ℕ) → List Piece
+abbrev pub changes : List Entry → List Revision → List Bool → List (List ℕ) → List HtmlPiece
 changes book [] locked said = []
 changes book (revision ∷ later) [] said = []
 changes book (revision ∷ later) (lock ∷ locked) [] = []
@@ -80,7 +80,7 @@ changes book (revision ∷ later) (lock ∷ locked) (words ∷ said) =
 
 -- ---- reviewers
 
-abbrev pub reviewer_item : List Entry → List ℕ → List Piece
+abbrev pub reviewer_item : List Entry → List ℕ → List HtmlPiece
 reviewer_item book reviewer =
     own "<li data-sequence=\"" ∷ number (greatest_seq book reviewer) ∷ own "\">" ∷ outside reviewer ∷ own "</li>\n" ∷ []
 
@@ -90,22 +90,22 @@ is_last (Some last) reviewer = bytes_eq last reviewer
 
 -- The reviewers of these entries, after an entry of this one. The entries of a book are in the order of their reviewers, so each
 -- reviewer comes once.
-abbrev pub reviewers_after : List Entry → Option (List ℕ) → List Entry → List Piece
+abbrev pub reviewers_after : List Entry → Option (List ℕ) → List Entry → List HtmlPiece
 reviewers_after book last [] = []
 reviewers_after book last (entry ∷ entries) =
     (if is_last last entry.reviewer then [] else reviewer_item book entry.reviewer) ++ reviewers_after book (Some entry.reviewer) entries
 
-abbrev pub reviewers : List Entry → List Piece
+abbrev pub reviewers : List Entry → List HtmlPiece
 reviewers book = reviewers_after book None book
 
 -- ---- items with a number
 
 -- the number of a revision comes next, as the name of its item in the list of changes
-abbrev pub opens_item : Piece → Bool
+abbrev pub opens_item : HtmlPiece → Bool
 opens_item (own text) = ends_in (codes "<li id=\"revision-") (codes text)
 opens_item (number n) = false
 opens_item (outside text) = false
 
 -- the list of changes has an item of this revision
-abbrev pub has_item : ℕ → List Piece → Bool
+abbrev pub has_item : ℕ → List HtmlPiece → Bool
 has_item rev pieces = has_number opens_item rev pieces

@@ -8,7 +8,7 @@ use Rattle.redl_opc.specs.Shape.{parts_of}
 use Rattle.redl_index.specs.declared.revision.Revision.{Revision}
 use Rattle.redl_journal.specs.declared.entry.Entry.{Entry}
 use Rattle.redl_shown.specs.Shown.{shown}
-use Rattle.redl_html.specs.Pieces.{Piece, own, number, outside, pieces_text}
+use Rattle.redl_html.specs.Pieces.{HtmlPiece, own, number, outside, pieces_text}
 use Rattle.redl_page_stories.specs.Document.{sections}
 use Rattle.redl_page.specs.Changes.{changes, reviewers}
 
@@ -38,39 +38,39 @@ pub record Shown : Type 0 where
   pub heading : Heading
 
 -- before the policy, and between policy and style
-abbrev pub before_policy : List Piece
+abbrev pub before_policy : List HtmlPiece
 before_policy =
     own "<!DOCTYPE html>\n<html lang=\"en\">\n<head>\n<meta charset=\"utf-8\">\n<meta http-equiv=\"Content-Security-Policy\" content=\"" ∷ []
 
 -- the title, or the program's own
-abbrev pub title_piece : Option (List ℕ) → Piece
+abbrev pub title_piece : Option (List ℕ) → HtmlPiece
 title_piece None = own "Redline: changes to decide"
 title_piece (Some title) = outside title
 
-abbrev pub before_style : Option (List ℕ) → List Piece
+abbrev pub before_style : Option (List ℕ) → List HtmlPiece
 before_style title =
     own "\">\n<meta name=\"viewport\" content=\"width=device-width, initial-scale=1\">\n<title>" ∷ title_piece title ∷ own "</title>\n<style>" ∷ []
 
 -- the body has the digest and the number of revisions, and the title and the rank where they are given
-abbrev pub title_attribute : Option (List ℕ) → List Piece
+abbrev pub title_attribute : Option (List ℕ) → List HtmlPiece
 title_attribute None = []
 title_attribute (Some title) = own "\" data-title=\"" ∷ outside title ∷ []
 
-abbrev pub rank_attribute : Option ℕ → List Piece
+abbrev pub rank_attribute : Option ℕ → List HtmlPiece
 rank_attribute None = []
 rank_attribute (Some rank) = own "\" data-rank=\"" ∷ number rank ∷ []
 
-abbrev pub body_start : List ℕ → ℕ → List Piece
+abbrev pub body_start : List ℕ → ℕ → List HtmlPiece
 body_start digest count =
     own "</style>\n</head>\n<body data-document=\"" ∷ outside (encode_lower digest) ∷ own "\" data-revisions=\"" ∷ number count ∷ []
 
-abbrev pub heading_attributes : Heading → List Piece
+abbrev pub heading_attributes : Heading → List HtmlPiece
 heading_attributes heading = title_attribute heading.title ++ rank_attribute heading.rank
 
-abbrev pub body_head : List ℕ → ℕ → Heading → List Piece
+abbrev pub body_head : List ℕ → ℕ → Heading → List HtmlPiece
 body_head digest count heading = body_start digest count ++ (heading_attributes heading ++ (own "\">\n<main lang=\"\">\n" ∷ []))
 
-abbrev pub reviewer_list : List Entry → List Piece
+abbrev pub reviewer_list : List Entry → List HtmlPiece
 reviewer_list book = own "</ol>\n<ul>\n" ∷ (reviewers book ++ (own "</ul>\n</aside>\n<script>" ∷ []))
 
 -- before the list of changes: without its script a page says so
@@ -78,16 +78,16 @@ abbrev pub before_changes : String
 before_changes =
     "</main>\n<aside aria-label=\"Changes\">\n<noscript><p>Deciding needs the script of this page, which does not run here. The words below are what the journals say.</p></noscript>\n<ol>\n"
 
-abbrev pub lists : Shown → List Piece
+abbrev pub lists : Shown → List HtmlPiece
 lists page =
     own before_changes ∷ (changes page.book page.revisions page.locked page.said ++ reviewer_list page.book)
 
 -- the document, the list of changes, and the reviewers
-abbrev pub body : Shown → List Piece
+abbrev pub body : Shown → List HtmlPiece
 body page =
     body_head page.digest (length page.revisions) page.heading ++ (sections shown page.revisions true (parts_of page.nodes) ++ lists page)
 
-abbrev pub after_script : List Piece
+abbrev pub after_script : List HtmlPiece
 after_script = own "</script>\n</body>\n</html>\n" ∷ []
 
 -- what comes before the body's pieces under this title, and after them

@@ -15,7 +15,7 @@ use Rattle.redl_shown.specs.Shown.{shown}
 use Rattle.redl_stamp.specs.Attribute.{attribute_value}
 use Rattle.redl_page_stories.specs.declared.idle.Within.{Within}
 use Rattle.redl_page_stories.specs.declared.marks.Depth.TheVariants.{Kids}
-use Rattle.redl_page_stories.specs.declared.place.Place.{Place}
+use Rattle.redl_page_stories.specs.declared.place.PageSummary.{PageSummary}
 use Rattle.redl_page_stories.specs.declared.shape.Shape.{Shape}
 use Rattle.redl_page_stories.specs.declared.shape.Shape.TheVariants as shape
 use Rattle.redl_page_stories.specs.Document.{bytes_pieces, element_pieces, end_as, inside, marks_in, nodes_pieces, start_as}
@@ -143,7 +143,7 @@ end_same revisions s in_run tag kids i h =
     ap (λ k. pieces_text (end_as revisions s kids k)) i.kind ∙ shape_end-text revisions s kids
     ∙ ap (λ p. pieces_text (if p then marks_in revisions Kids kids else []) ++ codes (closing s)) (no_paragraph s h)
 
-place_same : (place : Place) (in_run : Bool) (tag : Tag) → Idle in_run tag → inside tag place ≡ idle_place place tag.local
+place_same : (place : PageSummary) (in_run : Bool) (tag : Tag) → Idle in_run tag → inside tag place ≡ idle_place place tag.local
 place_same place in_run tag i =
     ap (λ (q : Bool). record { loud = place.loud && not q; shows = place.loud && (is "t" tag || is "delText" tag) }) (quiet_same in_run tag i)
     ∙ ap (λ (t : Bool). record { loud = place.loud && not (is "rPr" (of_w tag.local)); shows = place.loud && t })
@@ -177,5 +177,5 @@ page_of revisions around in_run (element tag kids rest) h =
 
 -- ---- a text of idle elements
 
-pub page_idle : (revisions : List Revision) (place : Place) (t : List ℕ) → pieces_text (nodes_pieces shown revisions place (idle_nodes t)) ≡ idle_text place (idle_nodes t)
+pub page_idle : (revisions : List Revision) (place : PageSummary) (t : List ℕ) → pieces_text (nodes_pieces shown revisions place (idle_nodes t)) ≡ idle_text place (idle_nodes t)
 page_idle revisions place t = page_of revisions (record { place = place; shape = shape.Nothing }) false (idle_nodes t) (nodes_are_idle t)

@@ -23,9 +23,9 @@ use Rattle.redl_opc.specs.Parts.{name_in}
 use Rattle.redl_opc.specs.Shape.{parts_of, story_of, refusal}
 use Rattle.redl_opc.proofs.StoryLaws.{stories-parts}
 use Rattle.redl_page_stories.specs.declared.marks.Depth.TheVariants.{Kids, Properties, RunProperties}
-use Rattle.redl_page_stories.specs.declared.place.Place.{Place}
+use Rattle.redl_page_stories.specs.declared.place.PageSummary.{PageSummary}
 use Rattle.redl_page_stories.specs.declared.shape.Shape.TheVariants.{Division, Paragraph}
-use Rattle.redl_html.specs.Pieces.{Piece, own}
+use Rattle.redl_html.specs.Pieces.{HtmlPiece, own}
 use Rattle.redl_html.proofs.NumberLaws.{has-left, has-right}
 use Rattle.redl_page_stories.specs.Shapes.{shape_of, holds_blocks}
 use Rattle.redl_page_stories.specs.Signs.{opens_number, has_element, before, member, is_member, has_member}
@@ -144,22 +144,22 @@ waits_here revisions v ancestors tag kids rest trace k e p =
 -- ---- nodes
 
 module _ (shown : List ℕ → List ℕ) (revisions : List Revision) (v : ℕ) where
-  abbrev Found : Place → List Tag → Nodes → Type 0
+  abbrev Found : PageSummary → List Tag → Nodes → Type 0
   Found place ancestors nodes = (has_element v (nodes_pieces shown revisions place nodes) ≡ true) ⊎ Waits revisions v ancestors nodes
 
-  found_start : (place : Place) (ancestors : List Tag) (tag : Tag) (kids rest : Nodes) → has_element v (start_as revisions (shape_of place.loud tag kids) tag kids tag.kind) ≡ true → Found place ancestors (element tag kids rest)
+  found_start : (place : PageSummary) (ancestors : List Tag) (tag : Tag) (kids rest : Nodes) → has_element v (start_as revisions (shape_of place.loud tag kids) tag kids tag.kind) ≡ true → Found place ancestors (element tag kids rest)
   found_start place ancestors tag kids rest h =
       inl (has-left opens_number v (element_pieces revisions place tag kids (nodes_pieces shown revisions (inside tag place) kids)) (nodes_pieces shown revisions place rest)
       (has-left opens_number v (start_as revisions (shape_of place.loud tag kids) tag kids tag.kind) (nodes_pieces shown revisions (inside tag place) kids ++ end_as revisions (shape_of place.loud tag kids) kids tag.kind) h))
 
-  found_inner : (place : Place) (ancestors : List Tag) (tag : Tag) (kids rest : Nodes) → has_element v (nodes_pieces shown revisions (inside tag place) kids ++ end_as revisions (shape_of place.loud tag kids) kids tag.kind) ≡ true →
+  found_inner : (place : PageSummary) (ancestors : List Tag) (tag : Tag) (kids rest : Nodes) → has_element v (nodes_pieces shown revisions (inside tag place) kids ++ end_as revisions (shape_of place.loud tag kids) kids tag.kind) ≡ true →
       Found place ancestors (element tag kids rest)
   found_inner place ancestors tag kids rest h =
       inl (has-left opens_number v (element_pieces revisions place tag kids (nodes_pieces shown revisions (inside tag place) kids)) (nodes_pieces shown revisions place rest)
       (has-right opens_number v (start_as revisions (shape_of place.loud tag kids) tag kids tag.kind) (nodes_pieces shown revisions (inside tag place) kids ++ end_as revisions (shape_of place.loud tag kids) kids tag.kind) h))
 
   -- an element that is a member
-  found_here : (place : Place) (ancestors : List Tag) (tag : Tag) (kids rest : Nodes) (kind : Kind) → tag.kind ≡ kind → is_member kind ≡ true → eqb tag.rev v ≡ true → Fits ancestors tag →
+  found_here : (place : PageSummary) (ancestors : List Tag) (tag : Tag) (kids rest : Nodes) (kind : Kind) → tag.kind ≡ kind → is_member kind ≡ true → eqb tag.rev v ≡ true → Fits ancestors tag →
       Found place ancestors (element tag kids rest)
   found_here place ancestors tag kids rest Plain k m e fit = cc
   found_here place ancestors tag kids rest (Content trace) k m e fit =
@@ -180,7 +180,7 @@ module _ (shown : List ℕ → List ℕ) (revisions : List Revision) (v : ℕ) w
       at false = has-left opens_number v (marks_in revisions Kids kids) _ h
 
   -- what waits among the kids of an element
-  found_waiting : (place : Place) (ancestors : List Tag) (tag : Tag) (kids rest : Nodes) → place.loud ≡ is_open ancestors → Fits ancestors tag → Waits revisions v (tag ∷ ancestors) kids →
+  found_waiting : (place : PageSummary) (ancestors : List Tag) (tag : Tag) (kids rest : Nodes) → place.loud ≡ is_open ancestors → Fits ancestors tag → Waits revisions v (tag ∷ ancestors) kids →
       Found place ancestors (element tag kids rest)
   found_waiting place ancestors tag kids rest o fit (in_run p h) =
       let both = and_parts (is "rPr" tag) (in_para_props ancestors) p in
@@ -203,7 +203,7 @@ module _ (shown : List ℕ → List ℕ) (revisions : List Revision) (v : ℕ) w
       at false true = refl
       at false false = refl
 
-  found : (place : Place) (ancestors : List Tag) (nodes : Nodes) → place.loud ≡ is_open ancestors → AllFit ancestors nodes → has_member v nodes ≡ true → Found place ancestors nodes
+  found : (place : PageSummary) (ancestors : List Tag) (nodes : Nodes) → place.loud ≡ is_open ancestors → AllFit ancestors nodes → has_member v nodes ≡ true → Found place ancestors nodes
   found place ancestors no_nodes o fit h = cc
   found place ancestors (bytes b rest) o fit h = at (found place ancestors rest o fit h)
     where
@@ -255,7 +255,7 @@ module _ (shown : List ℕ → List ℕ) (revisions : List Revision) (v : ℕ) w
   section-has : (first : Bool) (name : List ℕ) (root : Element) → IsStory root → has_member v root.kids ≡ true → has_element v (section shown revisions first name root.tag.local root.kids) ≡ true
   section-has first name root is h =
       let held = nodes_pieces shown revisions in_story root.kids in
-      let end : List Piece = own "</section>\n" ∷ [] in
+      let end : List HtmlPiece = own "</section>\n" ∷ [] in
       has-right opens_number v (section_start root.tag.local) (section_name first name ++ (held ++ end))
       (has-right opens_number v (section_name first name) (held ++ end) (has-left opens_number v held end (story-has root is h)))
 

@@ -14,10 +14,10 @@ use Rattle.redl_opc.proofs.WalkLaws.{part-at}
 use Rattle.redl_index.specs.declared.revision.Revision.{Revision}
 use Rattle.redl_page_stories.specs.declared.marks.Depth.{Depth}
 use Rattle.redl_page_stories.specs.declared.marks.Depth.TheVariants.{Kids, Properties, RunProperties}
-use Rattle.redl_page_stories.specs.declared.place.Place.{Place}
+use Rattle.redl_page_stories.specs.declared.place.PageSummary.{PageSummary}
 use Rattle.redl_page_stories.specs.declared.values.Property.{Property}
 use Rattle.redl_html.specs.Escaping.{escaped}
-use Rattle.redl_html.specs.Pieces.{Piece, own, pieces_text}
+use Rattle.redl_html.specs.Pieces.{HtmlPiece, own, pieces_text}
 use Rattle.redl_html.proofs.PieceLaws.{pieces_text-append}
 use Rattle.redl_page_stories.specs.Shapes.{closing, has_property, holds_blocks, is_paragraph, shape_of, switched_on, value_in, value_of}
 use Rattle.redl_page_stories.specs.declared.shape.Shape.{Shape}
@@ -58,20 +58,20 @@ marks_text revisions depth nodes x rest e =
     ap (λ n. pieces_text (marks_in revisions depth n)) e ∙ ap pieces_text (marks_in-front revisions depth x rest)
     ∙ pieces_text-append (item_marks revisions depth x) (marks_in revisions depth rest)
 
-nodes_pieces-front : (shown : List ℕ → List ℕ) (revisions : List Revision) (place : Place) (x : Item) (rest : Nodes) →
+nodes_pieces-front : (shown : List ℕ → List ℕ) (revisions : List Revision) (place : PageSummary) (x : Item) (rest : Nodes) →
     nodes_pieces shown revisions place (in_front x rest) ≡ item_pieces shown revisions place x ++ nodes_pieces shown revisions place rest
 nodes_pieces-front shown revisions place (bytes_item b) rest = refl
 nodes_pieces-front shown revisions place (element_item tag kids) rest = refl
 nodes_pieces-front shown revisions place (idle_item t) rest = pieces-⊕ shown revisions place (idle_nodes t) rest
 
-pub nodes_text : (shown : List ℕ → List ℕ) (revisions : List Revision) (place : Place) (nodes : Nodes) (x : Item) (rest : Nodes) → nodes ≡ in_front x rest →
+pub nodes_text : (shown : List ℕ → List ℕ) (revisions : List Revision) (place : PageSummary) (nodes : Nodes) (x : Item) (rest : Nodes) → nodes ≡ in_front x rest →
     pieces_text (nodes_pieces shown revisions place nodes) ≡ pieces_text (item_pieces shown revisions place x) ++ pieces_text (nodes_pieces shown revisions place rest)
 nodes_text shown revisions place nodes x rest e =
     ap (λ n. pieces_text (nodes_pieces shown revisions place n)) e ∙ ap pieces_text (nodes_pieces-front shown revisions place x rest)
     ∙ pieces_text-append (item_pieces shown revisions place x) (nodes_pieces shown revisions place rest)
 
 -- an element with this shape
-pub element_text-by : (revisions : List Revision) (place : Place) (tag : Tag) (kids : Nodes) (inner : List Piece) (shape : Shape) → shape ≡ shape_of place.loud tag kids →
+pub element_text-by : (revisions : List Revision) (place : PageSummary) (tag : Tag) (kids : Nodes) (inner : List HtmlPiece) (shape : Shape) → shape ≡ shape_of place.loud tag kids →
     pieces_text (element_pieces revisions place tag kids inner)
     ≡ pieces_text (start_as revisions shape tag kids tag.kind) ++ (pieces_text inner ++ pieces_text (end_as revisions shape kids tag.kind))
 element_text-by revisions place tag kids inner shape e =
@@ -151,16 +151,16 @@ pub section-text : (shown : List ℕ → List ℕ) (revisions : List Revision) (
     ≡ pieces_text (section_start sort) ++ (pieces_text (section_name first name) ++ (pieces_text (nodes_pieces shown revisions in_story kids) ++ codes "</section>\n"))
 section-text shown revisions first name sort kids =
     let held = nodes_pieces shown revisions in_story kids in
-    let end : List Piece = own "</section>\n" ∷ [] in
+    let end : List HtmlPiece = own "</section>\n" ∷ [] in
     pieces_text-append (section_start sort) (section_name first name ++ (held ++ end))
     ∙ ap (λ l. pieces_text (section_start sort) ++ l) (pieces_text-append (section_name first name) (held ++ end)
     ∙ ap (λ l. pieces_text (section_name first name) ++ l) (pieces_text-append held end))
 
-pub sections-part : (shown : List ℕ → List ℕ) (revisions : List Revision) (first : Bool) (nodes : Nodes) (number : ℕ) → number < length (parts_of nodes) →
+pub sections-step : (shown : List ℕ → List ℕ) (revisions : List Revision) (first : Bool) (nodes : Nodes) (number : ℕ) → number < length (parts_of nodes) →
     pieces_text (sections shown revisions first (drop number (parts_of nodes)))
     ≡ pieces_text (section_at shown revisions nodes first number)
     ++ pieces_text (sections shown revisions (is_first_after first (story nodes number)) (drop (number + 1) (parts_of nodes)))
-sections-part shown revisions first nodes number within =
+sections-step shown revisions first nodes number within =
     let found = part-at nodes number within in
     let later = drop (number + 1) (parts_of nodes) in
     ap (λ parts. pieces_text (sections shown revisions first parts)) found.1.front

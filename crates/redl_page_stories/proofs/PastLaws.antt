@@ -14,7 +14,7 @@ use Rattle.redl_tree.proofs.Idle.Tags.{Idle, idle_parts, has-not}
 use Rattle.redl_index.specs.declared.revision.Revision.{Revision}
 use Rattle.redl_page_stories.specs.declared.marks.Depth.{Depth}
 use Rattle.redl_page_stories.specs.declared.marks.Depth.TheVariants.{Kids, Properties, RunProperties}
-use Rattle.redl_page_stories.specs.declared.place.Place.{Place}
+use Rattle.redl_page_stories.specs.declared.place.PageSummary.{PageSummary}
 use Rattle.redl_page_stories.specs.declared.values.Property.{Property}
 use Rattle.redl_page_stories.specs.declared.values.Property.TheVariants.{Style, Direction, Span, Merge}
 use Rattle.redl_page_stories.specs.Document.{bytes_pieces, element_pieces, inside, marks_in, nodes_pieces}
@@ -23,7 +23,7 @@ use Rattle.redl_page_stories.specs.Signs.{member}
 
 -- ---- nodes one after the other
 
-pub pieces-⊕ : (shown : List ℕ → List ℕ) (revisions : List Revision) (place : Place) (x y : Nodes) →
+pub pieces-⊕ : (shown : List ℕ → List ℕ) (revisions : List Revision) (place : PageSummary) (x y : Nodes) →
     nodes_pieces shown revisions place (x ⊕ y) ≡ nodes_pieces shown revisions place x ++ nodes_pieces shown revisions place y
 pieces-⊕ shown revisions place no_nodes y = refl
 pieces-⊕ shown revisions place (bytes b rest) y =

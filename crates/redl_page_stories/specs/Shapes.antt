@@ -10,7 +10,7 @@ use Rattle.redl_tree.specs.declared.kinds.Space.{Space}
 use Rattle.redl_tree.specs.declared.kinds.Space.TheVariants.{Other}
 use Rattle.redl_shown.specs.Shown.{shown}
 use Rattle.redl_stamp.specs.Attribute.{attribute_value, written_value}
-use Rattle.redl_html.specs.Pieces.{Piece, own, outside}
+use Rattle.redl_html.specs.Pieces.{HtmlPiece, own, outside}
 use Rattle.redl_grammar.specs.References.{reference_at}
 use Rattle.redl_page_stories.specs.declared.values.Property.{Property}
 use Rattle.redl_page_stories.specs.declared.values.Property.TheVariants.{Style, Direction, Span, Merge}
@@ -213,27 +213,27 @@ value_of property (bytes b rest) = value_of property rest
 value_of property (element tag kids rest) = option_or (if holds property tag then value_in property kids else None) (value_of property rest)
 
 -- a paragraph from right to left
-abbrev pub direction_pieces : Option (List ℕ) → List Piece
+abbrev pub direction_pieces : Option (List ℕ) → List HtmlPiece
 direction_pieces None = []
 direction_pieces (Some value) = if is_off (Some value) then [] else own " dir=\"rtl\"" ∷ []
 
 -- a cell over several columns
-abbrev pub span_pieces : Option (List ℕ) → List Piece
+abbrev pub span_pieces : Option (List ℕ) → List HtmlPiece
 span_pieces None = []
 span_pieces (Some value) = own " colspan=\"" ∷ outside (shown value) ∷ own "\"" ∷ []
 
 -- a cell that goes on from the one above
-abbrev pub merge_pieces : Option (List ℕ) → List Piece
+abbrev pub merge_pieces : Option (List ℕ) → List HtmlPiece
 merge_pieces None = []
 merge_pieces (Some value) = if bytes_eq value (codes "restart") then [] else own " class=\"merged\"" ∷ []
 
 -- the end of the start tag of a paragraph with this style, as it is written, if it has one
-abbrev pub style_pieces : Option (List ℕ) → List Piece
+abbrev pub style_pieces : Option (List ℕ) → List HtmlPiece
 style_pieces None = own ">" ∷ []
 style_pieces (Some style) = own " data-style=\"" ∷ outside (shown style) ∷ own "\">" ∷ []
 
 -- the sign of a note with this id, and its end
-abbrev pub note_pieces : Option (List ℕ) → List Piece
+abbrev pub note_pieces : Option (List ℕ) → List HtmlPiece
 note_pieces None = own "</sup>" ∷ []
 note_pieces (Some id) = outside (shown id) ∷ own "</sup>" ∷ []
 
@@ -244,35 +244,35 @@ abbrev pub is_agreed : ℕ → Bool
 is_agreed c = (nat_le 0x20 c && nat_lt c 0x7F) || (nat_le 0xA0 c && nat_lt c 0xE000) || nat_le 0xF900 c
 
 -- a character that is shown, or else a box
-abbrev pub character_piece : ℕ → Piece
+abbrev pub character_piece : ℕ → HtmlPiece
 character_piece c = if is_agreed c then outside (encode_utf8 c) else own "&#9633;"
 
 -- the character of a reference
-abbrev pub referenced : Option (ℕ × List ℕ) → Piece
+abbrev pub referenced : Option (ℕ × List ℕ) → HtmlPiece
 referenced None = own "&#9633;"
 referenced (Some x) = character_piece x.0
 
 -- the symbol with this number, of four hexadecimal digits (17.3.3.30)
-unfoldable pub numbered : List ℕ → Piece
+unfoldable pub numbered : List ℕ → HtmlPiece
 numbered (a ∷ b ∷ c ∷ d ∷ []) = referenced (reference_at (35 ∷ 120 ∷ a ∷ b ∷ c ∷ d ∷ 59 ∷ []))
 numbered _ = own "&#9633;"
 
-abbrev pub symbol_piece : Option (List ℕ) → Piece
+abbrev pub symbol_piece : Option (List ℕ) → HtmlPiece
 symbol_piece None = own "&#9633;"
 symbol_piece (Some digits) = numbered digits
 
-abbrev pub symbol_pieces : Option (List ℕ) → List Piece
+abbrev pub symbol_pieces : Option (List ℕ) → List HtmlPiece
 symbol_pieces digits = symbol_piece digits ∷ own "</span>" ∷ []
 
 -- ---- what comes behind the opening
 
-abbrev pub paragraph_pieces : Nodes → List Piece
+abbrev pub paragraph_pieces : Nodes → List HtmlPiece
 paragraph_pieces kids = direction_pieces (value_of Direction kids) ++ style_pieces (value_of Style kids)
 
-abbrev pub cell_pieces : Nodes → List Piece
+abbrev pub cell_pieces : Nodes → List HtmlPiece
 cell_pieces kids = span_pieces (value_of Span kids) ++ (merge_pieces (value_of Merge kids) ++ (own ">" ∷ []))
 
-abbrev pub behind_opening : Shape → Tag → Nodes → List Piece
+abbrev pub behind_opening : Shape → Tag → Nodes → List HtmlPiece
 behind_opening Paragraph tag kids = paragraph_pieces kids
 behind_opening Division tag kids = paragraph_pieces kids
 behind_opening Cell tag kids = cell_pieces kids

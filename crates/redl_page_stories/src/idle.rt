@@ -5,7 +5,7 @@ ghost use Rattle.redl_tree.specs.Model.IdleTexts.{idle_nodes};
 ghost use Rattle.redl_page_stories.specs.Inside.Idle.{behind_idle, idle_start, idle_text};
 ghost use Rattle.redl_html.specs.Pieces.{pieces_text};
 
-use crate::place::Place;
+use crate::place::PageSummary;
 use crate::shape::Shape;
 use crate::shown::put_bytes;
 use crate::starts::put_symbol;
@@ -18,7 +18,7 @@ use redl_tree::Plain;
 #[derive(Clone, Copy)]
 pub(crate) struct Within {
     /// Where they stand.
-    pub place: Place,
+    pub place: PageSummary,
     /// What their parent is shown as.
     pub shape: Shape,
 }
@@ -58,7 +58,11 @@ impl<K: Sink> Shows<K> for Within {
 }
 
 /// Puts what idle elements show that have this place. It takes no memory.
-pub(crate) fn put_idle<K: Sink>(place: Place, plain: &Plain<'_>, out: &mut K) -> Result<(), Failed>
+pub(crate) fn put_idle<K: Sink>(
+    place: PageSummary,
+    plain: &Plain<'_>,
+    out: &mut K,
+) -> Result<(), Failed>
     ensures { Puts K.told K.faults K.settled K.lenders out.old out.new (idle_text place (idle_nodes plain.now)) result }
 {
     let within = Within {

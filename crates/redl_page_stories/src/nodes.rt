@@ -12,7 +12,7 @@ ghost use Rattle.redl_page_stories.specs.Inside.Items.{item_pieces};
 
 use crate::idle::put_idle;
 use crate::marks::{Depth, put_marks};
-use crate::place::Place;
+use crate::place::PageSummary;
 use crate::shape::Shape;
 use crate::shown::put_bytes;
 use crate::sign::{content_end, put_edge, put_member};
@@ -26,7 +26,7 @@ use redl_tree::{Elem, Kind, Node};
 #[cycle(nodes)]
 pub(crate) fn put_nodes<K: Sink>(
     index: &Index,
-    place: Place,
+    place: PageSummary,
     nodes: &[Node],
     out: &mut K,
 ) -> Result<(), Failed>
@@ -39,7 +39,12 @@ pub(crate) fn put_nodes<K: Sink>(
 }
 
 #[cycle(nodes)]
-fn put_node<K: Sink>(index: &Index, place: Place, node: &Node, out: &mut K) -> Result<(), Failed>
+fn put_node<K: Sink>(
+    index: &Index,
+    place: PageSummary,
+    node: &Node,
+    out: &mut K,
+) -> Result<(), Failed>
     ensures { Puts K.told K.faults K.settled K.lenders out.old out.new (pieces_text (item_pieces shown index.now place (item_of node.now))) result }
 {
     match node {
@@ -50,7 +55,12 @@ fn put_node<K: Sink>(index: &Index, place: Place, node: &Node, out: &mut K) -> R
 }
 
 #[cycle(nodes)]
-fn put_elem<K: Sink>(index: &Index, place: Place, elem: &Elem, out: &mut K) -> Result<(), Failed>
+fn put_elem<K: Sink>(
+    index: &Index,
+    place: PageSummary,
+    elem: &Elem,
+    out: &mut K,
+) -> Result<(), Failed>
     ensures { Puts K.told K.faults K.settled K.lenders out.old out.new
         (pieces_text (element_pieces index.now place (tag_of elem.now) (kids_of elem.now) (nodes_pieces shown index.now (inside (tag_of elem.now) place) (kids_of elem.now)))) result }
 {

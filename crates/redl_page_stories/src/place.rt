@@ -7,42 +7,42 @@ use redl_tree::{Elem, Word, is_named, is_quiet, is_word};
 
 /// What is round the nodes of a list.
 #[derive(Clone, Copy)]
-pub(crate) struct Place {
+pub(crate) struct PageSummary {
     /// No ancestor holds properties.
     pub loud: bool,
     /// The parent is a text.
     pub shows: bool,
 }
 
-impl Place {
+impl PageSummary {
     ghost use Rattle.redl_page_stories.specs.Document.{in_story, inside};
     ghost use Rattle.redl_page_stories.specs.Inside.Idle.{idle_place};
 
     /// The place of the kids of a story's root.
-    pub(crate) fn in_story() -> Place
+    pub(crate) fn in_story() -> PageSummary
         ensures { result ≡ in_story }
     {
-        Place {
+        PageSummary {
             loud: true,
             shows: false,
         }
     }
 
     /// The place of the kids of an element that has this place.
-    pub(crate) fn inside(self, elem: &Elem) -> Place
+    pub(crate) fn inside(self, elem: &Elem) -> PageSummary
         ensures { result ≡ inside (tag_of elem.now) self }
     {
-        Place {
+        PageSummary {
             loud: self.loud && !is_quiet(elem),
             shows: self.loud && (is_named(elem, b"t") || is_word(elem, Word::DelText)),
         }
     }
 
     /// The place of the kids of an idle element with this local name that has this place.
-    pub(crate) fn inside_idle(self, local: &[u8]) -> Place
+    pub(crate) fn inside_idle(self, local: &[u8]) -> PageSummary
         ensures { result ≡ idle_place self local.now }
     {
-        Place {
+        PageSummary {
             loud: self.loud && local != b"rPr".as_slice(),
             shows: self.loud && local == b"t".as_slice(),
         }

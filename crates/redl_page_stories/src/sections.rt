@@ -11,7 +11,7 @@ ghost use Rattle.redl_page_stories.specs.Document.{is_first_after, name_at, sect
 ghost use Rattle.redl_html.specs.Pieces.{pieces_text};
 
 use crate::nodes::put_nodes;
-use crate::place::Place;
+use crate::place::PageSummary;
 use redl_html::put_escaped;
 use redl_index::Index;
 use redl_io::{Failed, Sink, put_piece};
@@ -70,7 +70,7 @@ fn put_section<K: Sink>(
 {
     put_start(root.local(), out)?;
     put_name(first, name, out)?;
-    put_nodes(index, Place::in_story(), root.kids(), out)?;
+    put_nodes(index, PageSummary::in_story(), root.kids(), out)?;
     put_piece(b"</section>\n", out)
 }
 

@@ -4,7 +4,7 @@ ghost use Rattle.std.specs.Prelude.{◌≡◌, ◌++◌, codes, decimal};
 ghost use Rattle.redl_io.specs.Sink.{Puts};
 ghost use Rattle.redl_tree.specs.Model.View.{tag_of};
 ghost use Rattle.redl_html.specs.Pieces.{pieces_text};
-ghost use Rattle.redl_page_stories.specs.Signs.{after, author_at, before, cell_after, cell_before, change_after, change_before, content_before, content_end, edge, mark_after, mark_before, member, row_after, row_before, sign_text};
+ghost use Rattle.redl_page_stories.specs.Signs.{after, author_at, before, cell_after_author, cell_before_author, change_after_author, change_before_author, content_before_author, content_end, edge, mark_after_author, mark_before_author, member, row_after_author, row_before_author, sign_text};
 
 use itoa::Buffer;
 use redl_html::put_escaped;
@@ -101,16 +101,16 @@ fn text_before(kind: Kind) -> &'static [u8]
     match kind {
         Kind::Plain => b"",
         Kind::Marker => b"",
-        Kind::Content(trace) => content_before(trace),
-        Kind::Mark(trace) => mark_before(trace),
-        Kind::Row(trace) => row_before(trace),
-        Kind::Cell(trace) => cell_before(trace),
-        Kind::Change(prop) => change_before(prop),
+        Kind::Content(trace) => content_before_author(trace),
+        Kind::Mark(trace) => mark_before_author(trace),
+        Kind::Row(trace) => row_before_author(trace),
+        Kind::Cell(trace) => cell_before_author(trace),
+        Kind::Change(prop) => change_before_author(prop),
     }
 }
 
-fn content_before(trace: Trace) -> &'static [u8]
-    ensures { result.now ≡ codes (content_before trace) }
+fn content_before_author(trace: Trace) -> &'static [u8]
+    ensures { result.now ≡ codes (content_before_author trace) }
 {
     match trace {
         Trace::Ins => b"<ins class=\"text\" data-revision=\"",
@@ -120,8 +120,8 @@ fn content_before(trace: Trace) -> &'static [u8]
     }
 }
 
-fn mark_before(trace: Trace) -> &'static [u8]
-    ensures { result.now ≡ codes (mark_before trace) }
+fn mark_before_author(trace: Trace) -> &'static [u8]
+    ensures { result.now ≡ codes (mark_before_author trace) }
 {
     match trace {
         Trace::Ins => b"<ins class=\"mark\" data-revision=\"",
@@ -131,8 +131,8 @@ fn mark_before(trace: Trace) -> &'static [u8]
     }
 }
 
-fn row_before(trace: Trace) -> &'static [u8]
-    ensures { result.now ≡ codes (row_before trace) }
+fn row_before_author(trace: Trace) -> &'static [u8]
+    ensures { result.now ≡ codes (row_before_author trace) }
 {
     match trace {
         Trace::Ins => b"<td class=\"edge\"><ins class=\"row\" data-revision=\"",
@@ -142,8 +142,8 @@ fn row_before(trace: Trace) -> &'static [u8]
     }
 }
 
-fn cell_before(trace: Trace) -> &'static [u8]
-    ensures { result.now ≡ codes (cell_before trace) }
+fn cell_before_author(trace: Trace) -> &'static [u8]
+    ensures { result.now ≡ codes (cell_before_author trace) }
 {
     match trace {
         Trace::Ins => b"<ins class=\"cell\" data-revision=\"",
@@ -153,8 +153,8 @@ fn cell_before(trace: Trace) -> &'static [u8]
     }
 }
 
-fn change_before(prop: Prop) -> &'static [u8]
-    ensures { result.now ≡ codes (change_before prop) }
+fn change_before_author(prop: Prop) -> &'static [u8]
+    ensures { result.now ≡ codes (change_before_author prop) }
 {
     match prop {
         Prop::Run => b"<span class=\"props\" data-revision=\"",
@@ -174,15 +174,15 @@ fn text_after(kind: Kind) -> &'static [u8]
         Kind::Plain => b"",
         Kind::Marker => b"",
         Kind::Content(_) => b"\">",
-        Kind::Mark(trace) => mark_after(trace),
-        Kind::Row(trace) => row_after(trace),
-        Kind::Cell(trace) => cell_after(trace),
-        Kind::Change(prop) => change_after(prop),
+        Kind::Mark(trace) => mark_after_author(trace),
+        Kind::Row(trace) => row_after_author(trace),
+        Kind::Cell(trace) => cell_after_author(trace),
+        Kind::Change(prop) => change_after_author(prop),
     }
 }
 
-fn mark_after(trace: Trace) -> &'static [u8]
-    ensures { result.now ≡ codes (mark_after trace) }
+fn mark_after_author(trace: Trace) -> &'static [u8]
+    ensures { result.now ≡ codes (mark_after_author trace) }
 {
     match trace {
         Trace::Ins => b"\">&para;</ins>",
@@ -192,8 +192,8 @@ fn mark_after(trace: Trace) -> &'static [u8]
     }
 }
 
-fn row_after(trace: Trace) -> &'static [u8]
-    ensures { result.now ≡ codes (row_after trace) }
+fn row_after_author(trace: Trace) -> &'static [u8]
+    ensures { result.now ≡ codes (row_after_author trace) }
 {
     match trace {
         Trace::Ins => b"\">row</ins></td>",
@@ -203,8 +203,8 @@ fn row_after(trace: Trace) -> &'static [u8]
     }
 }
 
-fn cell_after(trace: Trace) -> &'static [u8]
-    ensures { result.now ≡ codes (cell_after trace) }
+fn cell_after_author(trace: Trace) -> &'static [u8]
+    ensures { result.now ≡ codes (cell_after_author trace) }
 {
     match trace {
         Trace::Ins => b"\">cell</ins>",
@@ -214,8 +214,8 @@ fn cell_after(trace: Trace) -> &'static [u8]
     }
 }
 
-fn change_after(prop: Prop) -> &'static [u8]
-    ensures { result.now ≡ codes (change_after prop) }
+fn change_after_author(prop: Prop) -> &'static [u8]
+    ensures { result.now ≡ codes (change_after_author prop) }
 {
     match prop {
         Prop::Run => b"\">run-props</span>",

@@ -6,8 +6,8 @@ use Rattle.redl_tree.specs.Decisions.Groups.{paragraph_next, has_thick, joins, g
 use Rattle.redl_tree.specs.Model.Kids.{without, has_element, some_element}
 use Rattle.redl_tree.specs.Model.Nodes.{Tag, Nodes, no_nodes, bytes, element, Item, in_front, ◌⊕◌}
 use Rattle.redl_paras.specs.Pieces.{piece_of, pieces_of, is_cut, paras_of}
-use Rattle.redl_paras.specs.declared.piece.Piece.{Piece}
-use Rattle.redl_paras.specs.declared.piece.Piece.TheVariants.{Para, Thin}
+use Rattle.redl_paras.specs.declared.piece.ChainPiece.{ChainPiece}
+use Rattle.redl_paras.specs.declared.piece.ChainPiece.TheVariants.{Para, Thin}
 
 pub without-in_front : (test : Tag → Bool) (x : Item) (xs : Nodes) → without test (in_front x xs) ≡ without test (in_front x no_nodes) ⊕ without test xs
 without-in_front test x xs = ap (without test) (sym (in_front-⊕ x no_nodes xs)) ∙ without-⊕ test (in_front x no_nodes) xs
@@ -24,27 +24,27 @@ some_besides test (element tag kids rest) = at (test tag) (some_besides test res
 
 -- ---- the paragraphs of a chain
 
-pub paras-few : (chain : List Piece) → paras_of chain ≤ length chain
+pub paras-few : (chain : List ChainPiece) → paras_of chain ≤ length chain
 paras-few [] = omega arith
 paras-few (Para elem cut ∷ rest) = omega (arith, paras-few rest)
 paras-few (Thin node ∷ rest) = omega (arith, paras-few rest)
 
-pub next-is : (chain : List Piece) → paragraph_next (pieces_of chain) ≡ nat_lt 0 (paras_of chain)
+pub next-is : (chain : List ChainPiece) → paragraph_next (pieces_of chain) ≡ nat_lt 0 (paras_of chain)
 next-is [] = refl
 next-is (Para elem cut ∷ rest) = grind arith
 next-is (Thin node ∷ rest) = next-is rest ∙ ap (λ n. nat_lt 0 n) (omega arith)
 
-pub thick-is : (chain : List Piece) → has_thick (pieces_of chain) ≡ nat_lt 0 (paras_of chain)
+pub thick-is : (chain : List ChainPiece) → has_thick (pieces_of chain) ≡ nat_lt 0 (paras_of chain)
 thick-is [] = refl
 thick-is (Para elem cut ∷ rest) = grind arith
 thick-is (Thin node ∷ rest) = thick-is rest ∙ ap (λ n. nat_lt 0 n) (omega arith)
 
-joins-is : (piece : Piece) (rest : List Piece) → joins (piece_of piece) (pieces_of rest) ≡ is_cut (piece_of piece) && paragraph_next (pieces_of rest)
+joins-is : (piece : ChainPiece) (rest : List ChainPiece) → joins (piece_of piece) (pieces_of rest) ≡ is_cut (piece_of piece) && paragraph_next (pieces_of rest)
 joins-is (Para elem cut) rest = refl
 joins-is (Thin node) rest = refl
 
 -- a piece at the front, where it is known whether a paragraph comes later
-pub grouped-more : (followed : Bool) (held : Option Nodes) (piece : Piece) (rest : List Piece) (more : Bool) → more ≡ nat_lt 0 (paras_of rest)
+pub grouped-more : (followed : Bool) (held : Option Nodes) (piece : ChainPiece) (rest : List ChainPiece) (more : Bool) → more ≡ nat_lt 0 (paras_of rest)
     → grouped_from followed held (pieces_of (piece ∷ rest))
     ≡ given (piece_of piece) held (is_cut (piece_of piece) && more) (more || followed)
     ⊕ grouped_from followed (held_by (piece_of piece) held (is_cut (piece_of piece) && more)) (pieces_of rest)

@@ -6,7 +6,7 @@ use Rattle.redl_tree.specs.Model.Nodes.{Tag, Nodes, no_nodes, bytes, element, �
 use Rattle.redl_tree.specs.Roles.Names.{is}
 use Rattle.redl_tree.specs.Model.Kids.{some_element, has_element, without}
 use Rattle.redl_tree.specs.Roles.Lists.{into, is_wrapper, is_thick}
-use Rattle.redl_tree.specs.Decisions.Groups.{Piece, para, thin, thick, paragraph_next, has_thick, joins, joined_tag, joined_kids, unjoined_para, given, held_by, grouped_from, grouped}
+use Rattle.redl_tree.specs.Decisions.Groups.{GroupPiece, para, thin, thick, paragraph_next, has_thick, joins, joined_tag, joined_kids, unjoined_para, given, held_by, grouped_from, grouped}
 use Rattle.redl_tree.specs.Rules.CellEnds.{or_before, end_of_one, end_of}
 use Rattle.redl_tree.specs.declared.lists.Reach.TheVariants.{Direct}
 use Rattle.redl_tree.proofs.Roles.Named.{by_names}
@@ -46,7 +46,7 @@ settled-other ends tag kids e = at (ends && not (has_element (without (is "pPr")
     at true h = no_block is_other_block (without (is "pPr") kids) (not-true _ (and_parts ends _ h).1)
     at false h = ap (λ b. b || false) (para_no_other tag e)
 
-given-other : (p : Piece) (held : Option Nodes) (joining followed : Bool) → is_chain (p ∷ []) ≡ true → some_element is_other_block (given p held joining followed) ≡ false
+given-other : (p : GroupPiece) (held : Option Nodes) (joining followed : Bool) → is_chain (p ∷ []) ≡ true → some_element is_other_block (given p held joining followed) ≡ false
 given-other (para tag cut kids) held true followed c = refl
 given-other (para tag cut kids) held false followed c =
     settled-other (cut && followed) (joined_tag held tag) (joined_kids held kids) (joined_p held tag (and_parts (is "p" tag) true c).0)
@@ -54,12 +54,12 @@ given-other (thin nodes) None joining followed c = thin_no_other nodes (not-true
 given-other (thin nodes) (Some held) joining followed c = refl
 given-other (thick nodes) held joining followed c = absurd (true≢false (sym c))
 
-chain-∷ : (p : Piece) (ps : List Piece) → is_chain (p ∷ ps) ≡ true → (is_chain (p ∷ []) ≡ true) × (is_chain ps ≡ true)
+chain-∷ : (p : GroupPiece) (ps : List GroupPiece) → is_chain (p ∷ ps) ≡ true → (is_chain (p ∷ []) ≡ true) × (is_chain ps ≡ true)
 chain-∷ (para tag cut kids) ps c = let a = and_parts (is "p" tag) (is_chain ps) c in (rw a.0 refl, a.1)
 chain-∷ (thin nodes) ps c = let a = and_parts (not (some_element is_thick nodes)) (is_chain ps) c in (rw a.0 refl, a.1)
 chain-∷ (thick nodes) ps c = absurd (true≢false (sym c))
 
-from-other : (followed : Bool) (held : Option Nodes) (ps : List Piece) → is_chain ps ≡ true → some_element is_other_block (grouped_from followed held ps) ≡ false
+from-other : (followed : Bool) (held : Option Nodes) (ps : List GroupPiece) → is_chain ps ≡ true → some_element is_other_block (grouped_from followed held ps) ≡ false
 from-other followed held [] c = refl
 from-other followed held (p ∷ ps) c =
     let a = chain-∷ p ps c in
@@ -97,7 +97,7 @@ para_end (element tag kids rest) e =
     (one_end (is "p" tag) (is_wrapper tag) (is_thick tag) _ (wrapper_thick tag) both.0) (para_end rest both.1)
 
 -- a group ends with a paragraph, where it has one
-pub grouped-end : (followed : Bool) (ps : List Piece) → is_chain ps ≡ true → some_element (is "p") (grouped followed ps) ≡ true → end_of Direct (grouped followed ps) ≡ Some true
+pub grouped-end : (followed : Bool) (ps : List GroupPiece) → is_chain ps ≡ true → some_element (is "p") (grouped followed ps) ≡ true → end_of Direct (grouped followed ps) ≡ Some true
 grouped-end followed ps c = (para_end (grouped followed ps) (from-other followed None ps c)).good
 
 -- The last paragraph
@@ -115,7 +115,7 @@ some-either test (element tag kids rest) ys = at (test tag) (some-either test re
 some_later : (xs ys : Nodes) → some_element (is "p") ys ≡ true → some_element (is "p") (xs ⊕ ys) ≡ true
 some_later xs ys e = some-either (is "p") xs ys ∙ ap (λ b. some_element (is "p") xs || b) e ∙ or-true (some_element (is "p") xs)
 
-left-from : (followed : Bool) (held : Option Nodes) (ps : List Piece) → is_chain ps ≡ true → keeps_last followed ps ≡ true → some_element (is "p") (grouped_from followed held ps) ≡ true
+left-from : (followed : Bool) (held : Option Nodes) (ps : List GroupPiece) → is_chain ps ≡ true → keeps_last followed ps ≡ true → some_element (is "p") (grouped_from followed held ps) ≡ true
 left-from followed held [] c e = absurd (true≢false (sym e))
 left-from followed held (thin nodes ∷ ps) c e =
     some_later (given (thin nodes) held false (has_thick ps || followed)) (grouped_from followed (held_by (thin nodes) held false) ps)
@@ -126,7 +126,7 @@ left-from followed held (para tag cut kids ∷ ps) c e =
     let joining = cut && paragraph_next ps in
     at (has_thick ps) refl e (and_parts (is "p" tag) true both.0).0 (left-from followed (held_by (para tag cut kids) held joining) ps both.1)
   where
-    p : Piece
+    p : GroupPiece
     p = para tag cut kids
 
     at : (h : Bool) → has_thick ps ≡ h → (if h then keeps_last followed ps else not (cut && followed)) ≡ true → is "p" tag ≡ true
@@ -140,5 +140,5 @@ left-from followed held (para tag cut kids ∷ ps) c e =
         ∙ ap (λ b. b || some_element (is "p") rest) (joined_p held tag q)
 
 -- a group has a paragraph, where the last one of the chain is kept
-pub grouped-left : (followed : Bool) (ps : List Piece) → is_chain ps ≡ true → keeps_last followed ps ≡ true → some_element (is "p") (grouped followed ps) ≡ true
+pub grouped-left : (followed : Bool) (ps : List GroupPiece) → is_chain ps ≡ true → keeps_last followed ps ≡ true → some_element (is "p") (grouped followed ps) ≡ true
 grouped-left followed ps = left-from followed None ps

@@ -13,7 +13,7 @@ ghost use Rattle.redl_tree.specs.Model.View.{nodes_of, item_of};
 ghost use Rattle.redl_tree.specs.declared.lists.Reach.TheVariants.{Direct};
 
 use crate::join::{joined, settle, take_up};
-use crate::piece::{Next, Piece};
+use crate::piece::{ChainPiece, Next};
 use redl_tree::Node;
 use std::alloc::{AllocError, Global};
 
@@ -25,7 +25,7 @@ use std::alloc::{AllocError, Global};
 /// are moved, never copied. `Err` means out of memory, and the chain is dropped.
 pub fn group<'a>(
     alloc: Global,
-    chain: Vec<Piece<'a>>,
+    chain: Vec<ChainPiece<'a>>,
     next: Next,
 ) -> Result<Vec<Node<'a>>, AllocError>
     ensures whole { IfOk result (λ nodes. nodes_of nodes.items ≡ grouped (is_other next) (pieces_of chain.entry.items)) }
@@ -52,7 +52,7 @@ pub fn group<'a>(
 }
 
 // How many paragraphs are in a chain.
-fn count_paras(chain: &[Piece]) -> usize
+fn count_paras(chain: &[ChainPiece]) -> usize
     ensures { result ≡ paras_of chain.now }
 {
     let mut count = 0;
@@ -62,12 +62,12 @@ fn count_paras(chain: &[Piece]) -> usize
     count
 }
 
-fn paras_in(piece: &Piece) -> usize
+fn paras_in(piece: &ChainPiece) -> usize
     ensures { result ≡ paras_in_piece piece.now }
 {
     match piece {
-        Piece::Para { .. } => 1,
-        Piece::Thin(_) => 0,
+        ChainPiece::Para { .. } => 1,
+        ChainPiece::Thin(_) => 0,
     }
 }
 
@@ -75,7 +75,7 @@ fn paras_in(piece: &Piece) -> usize
 // the chain.
 fn add<'a>(
     alloc: Global,
-    piece: Piece<'a>,
+    piece: ChainPiece<'a>,
     held: Option<Vec<Node<'a>>>,
     more: bool,
     next: Next,
@@ -86,14 +86,14 @@ fn add<'a>(
     ensures held { IfOk result (λ later. held_nodes later ≡ held_by (piece_of piece.entry) (held_nodes held.entry) (is_cut (piece_of piece.entry) && more)) }
 {
     match piece {
-        Piece::Thin(node) => match held {
+        ChainPiece::Thin(node) => match held {
             None => {
                 made.push(node)?;
                 Ok(None)
             }
             Some(held) => Ok(Some(take_up(alloc, Some(held), one(alloc, node)?)?)),
         },
-        Piece::Para { elem, cut } => {
+        ChainPiece::Para { elem, cut } => {
             if cut && more {
                 return Ok(Some(take_up(alloc, held, elem.into_kids(alloc))?));
             }

@@ -1,7 +1,7 @@
 //! Paragraphs that are joined: a chain of paragraphs and of the nodes between them goes in, what they give together comes
 //! out.
 //!
-//! Read `Piece` first, then `group`. Its clauses cite the definition of `specs/Decisions/Groups.antt` of `redl_tree`, and hold of any
+//! Read `ChainPiece` first, then `group`. Its clauses cite the definition of `specs/Decisions/Groups.antt` of `redl_tree`, and hold of any
 //! chain. Which paragraphs are cut, and where a chain begins and ends, is left to the crates above.
 //! Its tests are in `redl_pass_tests`.
 #![tactic(auto)]
@@ -11,4 +11,4 @@ mod join;
 mod piece;
 
 pub use grouping::group;
-pub use piece::{Next, Piece};
+pub use piece::{ChainPiece, Next};

@@ -13,7 +13,7 @@ pub enum Next {
 
 /// A piece of a chain, already passed.
 #[derive(Drop)]
-pub enum Piece<'a> {
+pub enum ChainPiece<'a> {
     /// A paragraph; `cut` where its mark goes.
     Para { elem: Elem<'a>, cut: bool },
     /// A node that counts as no block.

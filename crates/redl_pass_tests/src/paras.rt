@@ -6,7 +6,7 @@
 //! 17.3.1.26: a paragraph whose mark goes is joined with the next one, of which the properties stay.
 use crate::documents::{body_nodes, package_text};
 use redl_outline::{Outline, nodes_text, outline_text};
-use redl_paras::{Next, Piece, group};
+use redl_paras::{ChainPiece, Next, group};
 use redl_tree::{Elem, Node, is_named};
 use std::alloc::{AllocError, Global};
 use std::test::Fail;
@@ -23,21 +23,21 @@ fn is_cut(elem: &Elem) -> bool {
 }
 
 // The piece with this node.
-fn piece(node: Node<'_>) -> Piece<'_> {
+fn piece(node: Node<'_>) -> ChainPiece<'_> {
     match node {
         Node::Elem(elem) => {
             if is_named(&elem, b"p") {
                 let cut = is_cut(&elem);
-                return Piece::Para { elem, cut };
+                return ChainPiece::Para { elem, cut };
             }
-            Piece::Thin(Node::Elem(elem))
+            ChainPiece::Thin(Node::Elem(elem))
         }
-        Node::Bytes(text) => Piece::Thin(Node::Bytes(text)),
-        Node::Plain(plain) => Piece::Thin(Node::Plain(plain)),
+        Node::Bytes(text) => ChainPiece::Thin(Node::Bytes(text)),
+        Node::Plain(plain) => ChainPiece::Thin(Node::Plain(plain)),
     }
 }
 
-fn chain<'a>(alloc: Global, nodes: Vec<Node<'a>>) -> Result<Vec<Piece<'a>>, AllocError> {
+fn chain<'a>(alloc: Global, nodes: Vec<Node<'a>>) -> Result<Vec<ChainPiece<'a>>, AllocError> {
     let mut chain = Vec::new(alloc);
     for node in nodes {
         chain.push(piece(node))?;

@@ -64,8 +64,8 @@ passes-append p (x ∷ xs) ys h g =
     and_from (p x) (list_all p (xs ++ ys)) both.0 (passes-append p xs ys both.1 g)
 
 -- the two parts of a list that passes
-pub passes-parts : (p : ℕ → Bool) (xs ys : List ℕ) → list_all p (xs ++ ys) ≡ true → (list_all p xs ≡ true) × (list_all p ys ≡ true)
-passes-parts p xs ys h = and_parts (list_all p xs) (list_all p ys) (sym (list_all-append p xs ys) ∙ h)
+pub list_all-parts : (p : ℕ → Bool) (xs ys : List ℕ) → list_all p (xs ++ ys) ≡ true → (list_all p xs ≡ true) × (list_all p ys ≡ true)
+list_all-parts p xs ys h = and_parts (list_all p xs) (list_all p ys) (sym (list_all-append p xs ys) ∙ h)
 
 -- the longest leading run, by index
 pub front_at : (p : ℕ → Bool) (bs : List ℕ) (n : ℕ) → n ≤ length bs → ((k : ℕ) → k < n → p (get_or bs k 0) ≡ true) → (n < length bs → p (get_or bs n 0) ≡ false) → take n bs ≡ front p bs

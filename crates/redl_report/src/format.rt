@@ -8,7 +8,7 @@ ghost use Rattle.redl_report.specs.declared.line.ReportLine.{ReportLine};
 use crate::json_lines::JsonLines;
 use crate::line::ReportLine;
 use crate::text_lines::TextLines;
-use redl_formats::{ArrayFormat, LineFormat, Piece};
+use redl_formats::{ArrayFormat, ItemText, LineFormat};
 use std::alloc::AllocError;
 
 /// The format `text`.
@@ -74,7 +74,7 @@ pub trait ReportFormat: Drop {
         ensures { result.now ≡ report_text self.now (lines_so_far self.now) (is_ended self.now) };
 }
 
-impl<P: Piece<ReportLine>> ReportFormat for LineFormat<ReportLine, P> {
+impl<P: ItemText<ReportLine>> ReportFormat for LineFormat<ReportLine, P> {
     ghost report_name = { λ _. P.title };
 
     ghost lines_so_far = { λ format. format.items };
@@ -101,7 +101,7 @@ impl<P: Piece<ReportLine>> ReportFormat for LineFormat<ReportLine, P> {
     }
 }
 
-impl<P: Piece<ReportLine>> ReportFormat for ArrayFormat<ReportLine, P> {
+impl<P: ItemText<ReportLine>> ReportFormat for ArrayFormat<ReportLine, P> {
     ghost report_name = { λ _. P.title };
 
     ghost lines_so_far = { λ format. format.items };

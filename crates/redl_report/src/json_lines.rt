@@ -7,14 +7,14 @@ ghost use Rattle.redl_report.specs.Texts.{json_line, kind_tokens};
 use crate::line::{ReportLine, Role};
 use crate::text_lines::role_name;
 use json::Writer;
-use redl_formats::{Piece, put_number, put_text};
+use redl_formats::{ItemText, put_number, put_text};
 use std::alloc::AllocError;
 
 /// An object for each line, with its fields by their names.
 #[derive(Drop)]
 pub struct JsonLines;
 
-impl Piece<ReportLine> for JsonLines {
+impl ItemText<ReportLine> for JsonLines {
     ghost use Rattle.std.specs.Prelude.{codes};
     ghost use Rattle.redl_report.specs.Texts.{json_line};
 

@@ -5,7 +5,7 @@ ghost use Rattle.redl_report.specs.Counts.{IsLine};
 ghost use Rattle.redl_report.specs.Texts.{count_column, count_columns, label_of, role_name, text_line};
 
 use crate::line::{ReportLine, Role};
-use redl_formats::{Piece, push_left, push_number};
+use redl_formats::{ItemText, push_left, push_number};
 use redl_terminal::{Extent, push_masked};
 use std::alloc::AllocError;
 
@@ -13,7 +13,7 @@ use std::alloc::AllocError;
 #[derive(Drop)]
 pub struct TextLines;
 
-impl Piece<ReportLine> for TextLines {
+impl ItemText<ReportLine> for TextLines {
     ghost use Rattle.std.specs.Prelude.{codes};
     ghost use Rattle.redl_report.specs.Texts.{text_line};
 

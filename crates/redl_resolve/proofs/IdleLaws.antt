@@ -8,7 +8,7 @@ use Rattle.redl_tree.proofs.Idle.Tags.{Idle, idle_parts, has-not}
 use Rattle.redl_tree.proofs.Idle.Lists.{NoneIs, name_none}
 use Rattle.redl_tree.proofs.Idle.Pass.{one_pass, thin_piece, pass_idle}
 use Rattle.redl_tree.specs.Decisions.Fates.{fate, say_of}
-use Rattle.redl_tree.specs.Decisions.Groups.{Piece, thin, paragraph_next, has_thick, grouped_from}
+use Rattle.redl_tree.specs.Decisions.Groups.{GroupPiece, thin, paragraph_next, has_thick, grouped_from}
 use Rattle.redl_tree.specs.Decisions.Pass.{piece, pieces}
 use Rattle.redl_tree.specs.Decisions.Restored.{rejected, former_kids}
 use Rattle.redl_tree.specs.Model.Count.{count}
@@ -31,12 +31,12 @@ idle_piece says ancestors in_run tag kids i h =
     ∙ ap thin (one_pass says ancestors in_run tag kids i h)
 
 -- the pieces of idle nodes come to the same as one that gives all of them, whatever comes behind
-pub record AsOne (says : List Say) (ancestors : List Tag) (nodes : Nodes) (rest : List Piece) : Type 0 where
+pub record AsOne (says : List Say) (ancestors : List Tag) (nodes : Nodes) (rest : List GroupPiece) : Type 0 where
   pub next : paragraph_next (pieces says ancestors nodes ++ rest) ≡ paragraph_next rest
   pub heavy : has_thick (pieces says ancestors nodes ++ rest) ≡ has_thick rest
   pub gives : (held : Option Nodes) → grouped_from false held (pieces says ancestors nodes ++ rest) ≡ grouped_from false held (thin nodes ∷ rest)
 
-pub idle_as_one : (says : List Say) (ancestors : List Tag) (in_run : Bool) (nodes : Nodes) (rest : List Piece) → is_idle_in in_run nodes ≡ true → AsOne says ancestors nodes rest
+pub idle_as_one : (says : List Say) (ancestors : List Tag) (in_run : Bool) (nodes : Nodes) (rest : List GroupPiece) → is_idle_in in_run nodes ≡ true → AsOne says ancestors nodes rest
 idle_as_one says ancestors in_run no_nodes rest h = record { next = refl; heavy = refl; gives = none_thin rest }
 idle_as_one says ancestors in_run (bytes b more) rest h =
     let later = idle_as_one says ancestors in_run more rest h in
@@ -52,9 +52,9 @@ idle_as_one says ancestors in_run (element tag kids more) rest h =
     let behind = pieces says ancestors more ++ rest in
     let own = idle_piece says ancestors in_run tag kids p.own p.below in
     record {
-      next = ap (λ (x : Piece). paragraph_next (x ∷ behind)) own ∙ later.next;
-      heavy = ap (λ (x : Piece). has_thick (x ∷ behind)) own ∙ later.heavy;
-      gives = λ held. ap (λ (x : Piece). grouped_from false held (x ∷ behind)) own
+      next = ap (λ (x : GroupPiece). paragraph_next (x ∷ behind)) own ∙ later.next;
+      heavy = ap (λ (x : GroupPiece). has_thick (x ∷ behind)) own ∙ later.heavy;
+      gives = λ held. ap (λ (x : GroupPiece). grouped_from false held (x ∷ behind)) own
           ∙ thin_before (element tag kids no_nodes) behind (thin more ∷ rest) later.gives held
           ∙ two_thin (element tag kids no_nodes) more rest held;
     }

@@ -4,7 +4,7 @@ ghost use Rattle.std.specs.List.{list_all};
 ghost use Rattle.std.specs.Prelude.{◌≡◌, ℕ, List, Bool, true, false};
 ghost use Rattle.redl_resolve.specs.Keeps.{KeepsText, KeepsRules};
 ghost use Rattle.redl_tree.specs.Decisions.Beside.{bytes_beside, bytes_of_each, are_named};
-ghost use Rattle.redl_tree.specs.Decisions.Groups.{Piece, grouped};
+ghost use Rattle.redl_tree.specs.Decisions.Groups.{GroupPiece, grouped};
 ghost use Rattle.redl_tree.specs.Model.Kids.{some_element};
 ghost use Rattle.redl_tree.specs.Revisions.Markers.{Value};
 ghost use Rattle.redl_tree.specs.Model.Nodes.{Tag, Nodes};
@@ -55,6 +55,6 @@ pub fn tables_keep_a_row()
 
 /// Joined paragraphs keep the bytes outside their properties, in their order.
 pub fn groups_keep_bytes()
-    ensures { (followed : Bool) (pieces : List Piece) → are_named pieces ≡ true
+    ensures { (followed : Bool) (pieces : List GroupPiece) → are_named pieces ≡ true
         → bytes_beside (grouped followed pieces) ≡ bytes_of_each pieces }
 {}

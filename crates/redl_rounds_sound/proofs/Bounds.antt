@@ -20,7 +20,7 @@ use Rattle.redl_tree.specs.Roles.Names.{is, named}
 use Rattle.redl_tree.specs.Roles.Places.{props_name}
 use Rattle.redl_tree.specs.Rules.Sound.{former_declares}
 use Rattle.redl_tree.specs.declared.kinds.Say.{Say}
-use Rattle.redl_grammar.specs.declared.place.Place.{Place}
+use Rattle.redl_grammar.specs.declared.section.Section.{Section}
 use Rattle.redl_xml.specs.Readings.{AreLegal, IsReading, IsStretchOrNone}
 use Rattle.redl_xml.specs.Scopes.{Scope, scope_in}
 
@@ -152,7 +152,7 @@ legal-below scope (bytes b rest) h = legal-below scope rest h.2
 legal-below scope (element tag kids rest) h =
     (let none = h.0.rev in omega (arith, none), legal-below (scope_in tag.tail scope) kids h.2, legal-below scope rest h.3)
 
-stretch-below : (place : Place) (nodes : Nodes) → IsStretchOrNone place nodes → AreBelow 1 nodes
+stretch-below : (place : Section) (nodes : Nodes) → IsStretchOrNone place nodes → AreBelow 1 nodes
 stretch-below place no_nodes h = tt
 stretch-below place (bytes b no_nodes) h = tt
 stretch-below place (bytes b (bytes c rest)) h = absurd h

@@ -71,8 +71,8 @@ abbrev sized : List ℕ → List Entry → Result (List Entry × ℕ) Failure
 sized text entries = Ok (entries, length text)
 
 -- what is gathered of one journal alone
-abbrev alone : Reader → Files → DocumentId → ℕ → List Entry × ℕ → Result (List Entry) Failure
-alone reader files document most first = gathered reader files document (most - first.1) [] >>= (λ more. Ok (first.0 ++ more))
+abbrev of_one_journal : Reader → Files → DocumentId → ℕ → List Entry × ℕ → Result (List Entry) Failure
+of_one_journal reader files document most first = gathered reader files document (most - first.1) [] >>= (λ more. Ok (first.0 ++ more))
 
 -- the entries that come of a file with the text of a journal, where that is the journal of this document
 pub gathers_written : (reader : Reader) (files : Files) (document : DocumentId) (most : ℕ) (name : List ℕ) (journal : Journal) → IsReader reader → IsWritable journal
@@ -81,7 +81,7 @@ pub gathers_written : (reader : Reader) (files : Files) (document : DocumentId) 
 gathers_written reader files document most name journal is writable there short digest count =
     let text = written_text journal in
     let read : reader.journal text ≡ Some journal = reads_journal reader text journal is (written-again journal writable) in
-    ap (λ found. (found >>= (λ whole. entries_of document name (reader.journal whole) >>= sized whole)) >>= alone reader files document most) (reads_file files name text most JournalBytes there short)
-    ∙ ap (λ found. (entries_of document name found >>= sized text) >>= alone reader files document most) read
-    ∙ ap (λ found. (found >>= sized text) >>= alone reader files document most) (has_own document name journal digest count)
+    ap (λ found. (found >>= (λ whole. entries_of document name (reader.journal whole) >>= sized whole)) >>= of_one_journal reader files document most) (reads_file files name text most JournalBytes there short)
+    ∙ ap (λ found. (entries_of document name found >>= sized text) >>= of_one_journal reader files document most) read
+    ∙ ap (λ found. (found >>= sized text) >>= of_one_journal reader files document most) (has_own document name journal digest count)
     ∙ ap Ok (append-nil journal.entries)

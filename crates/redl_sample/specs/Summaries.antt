@@ -3,7 +3,7 @@ use Rattle.std.specs.Prelude.{ℕ, Bool, true, false, List, [], ◌∷◌, ◌++
 use Rattle.hex.specs.Hex.{encode_lower}
 use Rattle.redl_join.specs.declared.verdict.Verdict.{Verdict}
 use Rattle.redl_join.specs.declared.verdict.Verdict.TheVariants.{Undecided, Accept, Reject, Disputed}
-use Rattle.redl_sample.specs.declared.summary.Summary.{Summary}
+use Rattle.redl_sample.specs.declared.summary.SampleSummary.{SampleSummary}
 use Rattle.redl_sample.specs.declared.tally.Tally.{Tally}
 
 -- the two verdicts are the same
@@ -38,7 +38,7 @@ tally_text tally =
     ++ (number_line (codes "disputed") tally.disputed ++ number_line (codes "open") tally.undecided))
 
 -- the summary of a sample, a line for each number
-abbrev pub summary_text : Summary → List ℕ
+abbrev pub summary_text : SampleSummary → List ℕ
 summary_text summary =
     number_line (codes "paragraphs") summary.paragraphs
     ++ (number_line (codes "revisions") summary.revisions

@@ -11,7 +11,7 @@ use redl_io::{Failed, Sink, put_pieces};
 
 /// What becomes of a sample under the decisions of its reviewers.
 #[derive(Clone, Copy, Debug, PartialEq, Eq)]
-pub struct Summary {
+pub struct SampleSummary {
     /// The number of blocks that the sample was made with.
     pub paragraphs: u32,
     /// How many revisions its package has.
@@ -26,7 +26,7 @@ pub struct Summary {
     pub digest: [u8; 32],
 }
 
-impl Summary {
+impl SampleSummary {
     /// Puts the nine lines of the summary, each a name, a space and a value. `Failed` means that the sink failed and has
     /// only a prefix of them.
     pub fn write<K: Sink>(&self, out: &mut K) -> Result<(), Failed>

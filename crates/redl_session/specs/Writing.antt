@@ -7,9 +7,9 @@ use Rattle.redl_session.specs.declared.refusal.SessionWriteError.{SessionWriteEr
 use Rattle.redl_session.specs.declared.refusal.SessionWriteError.TheVariants.{Failed, NoMemory}
 
 -- the text was put: all of it, a prefix where the sink failed, or nothing where memory ran out
-abbrev pub Writes : {K : Type 0} → (told : K → Option (List ℕ)) (faults settled : K → ℕ) (lenders : K → List GName)
+abbrev pub PutsOrNothing : {K : Type 0} → (told : K → Option (List ℕ)) (faults settled : K → ℕ) (lenders : K → List GName)
     (old new : K) (text : List ℕ) → Result (Unit {0}) SessionWriteError → Type 0
-Writes told faults settled lenders old new text (Ok done) = Puts {T = Unit {0}} told faults settled lenders old new text (Ok done)
-Writes told faults settled lenders old new text (Err Failed) =
+PutsOrNothing told faults settled lenders old new text (Ok done) = Puts {T = Unit {0}} told faults settled lenders old new text (Ok done)
+PutsOrNothing told faults settled lenders old new text (Err Failed) =
     (failed : sink.Failed) × Puts {T = Unit {0}} told faults settled lenders old new text (Err failed)
-Writes told faults settled lenders old new text (Err NoMemory) = new ≡ old
+PutsOrNothing told faults settled lenders old new text (Err NoMemory) = new ≡ old

@@ -10,7 +10,7 @@ ghost use Rattle.redl_session.specs.Refusals.{IsCause, admitted, cause_of, refus
 ghost use Rattle.redl_session.specs.Says.{verdicts_of};
 ghost use Rattle.redl_session.specs.declared.refusal.Taken.TheVariants.{New, Repeat};
 ghost use Rattle.redl_session.specs.Sessions.{StopsAfter, says};
-ghost use Rattle.redl_session.specs.Writing.{Writes};
+ghost use Rattle.redl_session.specs.Writing.{PutsOrNothing};
 ghost use Rattle.redl_tree.specs.Decisions.Packages.{pass_package, stories};
 ghost use Rattle.redl_tree.specs.Decisions.Survivors.{survivors, text_pieces};
 ghost use Rattle.redl_tree.specs.Model.Text.{text};
@@ -185,7 +185,7 @@ impl<'a> Session<'a> {
     ///
     /// For programs that go on with the session; the commands take `into_passed`, which copies no nodes that stay.
     pub fn write<K: Sink>(&self, out: &mut K) -> Result<(), SessionWriteError>
-        ensures { Writes K.told K.faults K.settled K.lenders out.old out.new (text (pass_package (says self.now) self.now.nodes)) result }
+        ensures { PutsOrNothing K.told K.faults K.settled K.lenders out.old out.new (text (pass_package (says self.now) self.now.nodes)) result }
     {
         let Ok(nodes) = self.passed() else {
             return Err(SessionWriteError::NoMemory);

@@ -9,5 +9,5 @@ mod pieces;
 mod shown;
 
 pub use parts::{Here, start};
-pub use pieces::{Piece, Step, next_shown};
+pub use pieces::{ShownPiece, Step, next_shown};
 pub use shown::put_shown;

@@ -13,7 +13,7 @@ use redl_reading::run;
 
 /// What a step shows.
 #[derive(Clone, Copy, Debug)]
-pub enum Piece<'a> {
+pub enum ShownPiece<'a> {
     /// Nothing, as in a comment.
     Nothing,
     /// These bytes, as they are.
@@ -26,7 +26,7 @@ pub enum Piece<'a> {
 #[derive(Clone, Copy, Debug)]
 pub struct Step<'a> {
     /// What it shows.
-    pub piece: Piece<'a>,
+    pub piece: ShownPiece<'a>,
     /// What the next byte is in.
     pub here: Here,
     /// The bytes that are left.
@@ -65,46 +65,46 @@ fn plain_step(here: Here, bytes: &[u8]) -> Step<'_>
 {
     let (plain, rest) = run(bytes, |b| is_plain(b));
     Step {
-        piece: Piece::Bytes(plain),
+        piece: ShownPiece::Bytes(plain),
         here,
         rest,
     }
 }
 
 // What the next byte shows.
-fn byte_piece<'a>(here: Here, first: u8, rest: &'a [u8], left: &'a [u8]) -> Piece<'a>
+fn byte_piece<'a>(here: Here, first: u8, rest: &'a [u8], left: &'a [u8]) -> ShownPiece<'a>
     requires { left.now ≡ first ∷ rest.now }
     ensures { piece_text result ≡ byte_shown here first rest.now }
 {
     if here.skip == 0 {
         return first_piece(here.part, first, rest, left);
     }
-    Piece::Nothing
+    ShownPiece::Nothing
 }
 
-fn first_piece<'a>(part: Part, first: u8, rest: &'a [u8], left: &'a [u8]) -> Piece<'a>
+fn first_piece<'a>(part: Part, first: u8, rest: &'a [u8], left: &'a [u8]) -> ShownPiece<'a>
     requires { left.now ≡ first ∷ rest.now }
     ensures { piece_text result ≡ first_shown part first rest.now }
 {
     match part {
         Part::Characters => character_piece(first, rest, left),
-        Part::Reference | Part::Comment | Part::Instruction => Piece::Nothing,
+        Part::Reference | Part::Comment | Part::Instruction => ShownPiece::Nothing,
         Part::Cdata => first_unless(begins(left, b"]]>"), left),
     }
 }
 
 // The first byte, unless something else begins with it.
-fn first_unless(begins: bool, left: &[u8]) -> Piece<'_>
+fn first_unless(begins: bool, left: &[u8]) -> ShownPiece<'_>
     requires { 0 < length left.now }
     ensures { piece_text result ≡ (if begins then [] else take 1 left.now) }
 {
     if begins {
-        return Piece::Nothing;
+        return ShownPiece::Nothing;
     }
-    Piece::Bytes(&left[..1])
+    ShownPiece::Bytes(&left[..1])
 }
 
-fn character_piece<'a>(first: u8, rest: &'a [u8], left: &'a [u8]) -> Piece<'a>
+fn character_piece<'a>(first: u8, rest: &'a [u8], left: &'a [u8]) -> ShownPiece<'a>
     requires { left.now ≡ first ∷ rest.now }
     ensures { piece_text result ≡ character_shown first rest.now }
 {
@@ -115,11 +115,11 @@ fn character_piece<'a>(first: u8, rest: &'a [u8], left: &'a [u8]) -> Piece<'a>
 }
 
 // The character of a reference, given what follows its `&`.
-fn reference_piece(rest: &[u8]) -> Piece<'_>
+fn reference_piece(rest: &[u8]) -> ShownPiece<'_>
     ensures { piece_text result ≡ character_text (reference_at rest.now) }
 {
     match read_reference(rest) {
-        Some((character, _)) => Piece::Character(character),
-        None => Piece::Nothing,
+        Some((character, _)) => ShownPiece::Character(character),
+        None => ShownPiece::Nothing,
     }
 }

@@ -5,7 +5,7 @@ ghost use Rattle.redl_shown.specs.Shown.{shown};
 ghost use Rattle.redl_shown.specs.Pieces.{piece_text};
 
 use crate::parts::start;
-use crate::pieces::{Piece, next_shown};
+use crate::pieces::{ShownPiece, next_shown};
 use redl_io::{Failed, Sink, put_piece};
 
 /// Puts what the bytes of a node show: each reference as its character, and of CDATA what is in it, but no comments and no
@@ -26,13 +26,13 @@ pub fn put_shown<K: Sink>(bytes: &[u8], out: &mut K) -> Result<(), Failed>
 }
 
 // Puts what a step shows.
-fn put_step<K: Sink>(piece: Piece<'_>, out: &mut K) -> Result<(), Failed>
+fn put_step<K: Sink>(piece: ShownPiece<'_>, out: &mut K) -> Result<(), Failed>
     ensures { Puts K.told K.faults K.settled K.lenders out.old out.new (piece_text piece.entry) result }
 {
     match piece {
-        Piece::Nothing => Ok(()),
-        Piece::Bytes(bytes) => put_piece(bytes, out),
-        Piece::Character(character) => put_piece(
+        ShownPiece::Nothing => Ok(()),
+        ShownPiece::Bytes(bytes) => put_piece(bytes, out),
+        ShownPiece::Character(character) => put_piece(
             character.encode_utf8(&mut [0; 4]).as_bytes(),
             out,
         ),

@@ -13,7 +13,7 @@ value_from so_far [] = so_far
 value_from so_far (digit ∷ digits) = value_from (so_far * 10 + (digit - 48)) digits
 
 -- the text is so many decimal digits, which write the number
-pub record Writes (many : ℕ) (text : List ℕ) (number : ℕ) : Type 0 where
+pub record WritesNumber (many : ℕ) (text : List ℕ) (number : ℕ) : Type 0 where
   pub size : length text ≡ many
   pub digits : list_all is_decimal text ≡ true
   pub value : number ≡ value_from 0 text
@@ -29,9 +29,9 @@ pub record NamesDay (text : List ℕ) (seconds : ℤ) : Type 0 where
   pub month_text : List ℕ
   pub day_text : List ℕ
   pub whole : text ≡ year_text ++ (codes "-" ++ (month_text ++ (codes "-" ++ day_text)))
-  pub is_year : Writes 4 year_text year
-  pub is_month : Writes 2 month_text month
-  pub is_day : Writes 2 day_text day
+  pub is_year : WritesNumber 4 year_text year
+  pub is_month : WritesNumber 2 month_text month
+  pub is_day : WritesNumber 2 day_text day
   pub calendar : is_date year month day ≡ true
   pub value : seconds ≡ seconds_to (days_from_civil (pos year) month day)
 
@@ -44,9 +44,9 @@ pub record NamesTime (text : List ℕ) (seconds : ℕ) : Type 0 where
   pub minute_text : List ℕ
   pub second_text : List ℕ
   pub whole : text ≡ hour_text ++ (codes ":" ++ (minute_text ++ (codes ":" ++ second_text)))
-  pub is_hour : Writes 2 hour_text hour
-  pub is_minute : Writes 2 minute_text minute
-  pub is_second : Writes 2 second_text second
+  pub is_hour : WritesNumber 2 hour_text hour
+  pub is_minute : WritesNumber 2 minute_text minute
+  pub is_second : WritesNumber 2 second_text second
   pub clock : is_time hour minute second ≡ true
   pub value : seconds ≡ hour * 3600 + minute * 60 + second
 
@@ -62,8 +62,8 @@ pub record NamesOffset (text : List ℕ) (seconds : ℕ) : Type 0 where
   pub hours_text : List ℕ
   pub minutes_text : List ℕ
   pub whole : text ≡ hours_text ++ (codes ":" ++ minutes_text)
-  pub is_hours : Writes 2 hours_text hours
-  pub is_minutes : Writes 2 minutes_text minutes
+  pub is_hours : WritesNumber 2 hours_text hours
+  pub is_minutes : WritesNumber 2 minutes_text minutes
   pub few_hours : hours ≤ 14
   pub few_minutes : minutes ≤ 59
   pub value : seconds ≡ hours * 3600 + minutes * 60

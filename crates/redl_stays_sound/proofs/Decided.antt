@@ -11,7 +11,7 @@ use Rattle.redl_stays_sound.specs.Kept.{Placed, placed_in}
 use Rattle.redl_tree.proofs.Roles.Fits.{AllFit, Fits, not_props}
 use Rattle.redl_tree.proofs.Roles.Named.{by_name}
 use Rattle.redl_tree.specs.Decisions.Fates.{fate_of, is_revived, renamed}
-use Rattle.redl_tree.specs.Decisions.Groups.{Piece, given, grouped_from, has_thick, held_by, joined_kids, joined_tag, joins, para, taken, thick, thin, unjoined_para}
+use Rattle.redl_tree.specs.Decisions.Groups.{GroupPiece, given, grouped_from, has_thick, held_by, joined_kids, joined_tag, joins, para, taken, thick, thin, unjoined_para}
 use Rattle.redl_tree.specs.Decisions.Packages.{stories}
 use Rattle.redl_tree.specs.Decisions.Pass.{by_fate, element_pass, is_block_para, kept_kids, pass, pieces}
 use Rattle.redl_tree.specs.Decisions.Restored.{Rejected, after_change, former_kids, is_uncovered, present, rejected, rejected_as, restored}
@@ -68,12 +68,12 @@ left-without says names (element tag kids rest) p =
 
 -- ---- lists that are put together
 
-abbrev IsLeftPiece : List Say → Piece → Type 0
+abbrev IsLeftPiece : List Say → GroupPiece → Type 0
 IsLeftPiece says (para tag cut kids) = IsLeft says tag × AllLeft says kids
 IsLeftPiece says (thin nodes) = AllLeft says nodes
 IsLeftPiece says (thick nodes) = AllLeft says nodes
 
-abbrev AreLeft : List Say → List Piece → Type 0
+abbrev AreLeft : List Say → List GroupPiece → Type 0
 AreLeft says [] = Unit {0}
 AreLeft says (p ∷ ps) = IsLeftPiece says p × AreLeft says ps
 
@@ -100,7 +100,7 @@ left-unjoined says ends tag kids t p =
     left-if says (ends && not (has_element (without (is "pPr") kids))) (without (is "pPr") kids) (element tag kids no_nodes)
     (left-without says (is "pPr") kids p) (t, p, tt)
 
-left-given : (says : List Say) (p : Piece) (held : Option Nodes) (joined followed : Bool) → IsLeftPiece says p → IsLeftHeld says held → AllLeft says (given p held joined followed)
+left-given : (says : List Say) (p : GroupPiece) (held : Option Nodes) (joined followed : Bool) → IsLeftPiece says p → IsLeftHeld says held → AllLeft says (given p held joined followed)
 left-given says (para tag cut kids) held true followed p h = tt
 left-given says (para tag cut kids) held false followed p h =
     left-unjoined says (cut && followed) (joined_tag held tag) (joined_kids held kids) (left-joined_tag says held tag p.0) (left-joined says held kids h p.1)
@@ -108,14 +108,14 @@ left-given says (thin nodes) None joined followed p h = p
 left-given says (thin nodes) (Some held) joined followed p h = tt
 left-given says (thick nodes) held joined followed p h = p
 
-left-held : (says : List Say) (p : Piece) (held : Option Nodes) (joined : Bool) → IsLeftPiece says p → IsLeftHeld says held → IsLeftHeld says (held_by p held joined)
+left-held : (says : List Say) (p : GroupPiece) (held : Option Nodes) (joined : Bool) → IsLeftPiece says p → IsLeftHeld says held → IsLeftHeld says (held_by p held joined)
 left-held says (para tag cut kids) held true p h = left-taken says held kids h p.1
 left-held says (para tag cut kids) held false p h = tt
 left-held says (thin nodes) None joined p h = tt
 left-held says (thin nodes) (Some held) joined p h = left-taken says (Some held) nodes h p
 left-held says (thick nodes) held joined p h = tt
 
-left-grouped : (says : List Say) (followed : Bool) (held : Option Nodes) (ps : List Piece) → AreLeft says ps → IsLeftHeld says held → AllLeft says (grouped_from followed held ps)
+left-grouped : (says : List Say) (followed : Bool) (held : Option Nodes) (ps : List GroupPiece) → AreLeft says ps → IsLeftHeld says held → AllLeft says (grouped_from followed held ps)
 left-grouped says followed held [] p h = tt
 left-grouped says followed held (one ∷ ps) p h =
     left-⊕ says (given one held (joins one ps) (has_thick ps || followed)) (grouped_from followed (held_by one held (joins one ps)) ps)

@@ -8,7 +8,7 @@ use Rattle.redl_tree.proofs.Decisions.PassLaws.{Takes, alone, alone-piece, block
 use Rattle.redl_tree.proofs.Roles.Fits.{AllFit, Fits, OpenKind, content as content_kind, marker, open_fits, open_none_rejected, open_∷, plain}
 use Rattle.redl_tree.proofs.Roles.Named.{by_name, by_names, by_trace}
 use Rattle.redl_tree.specs.Decisions.Fates.{fate, is_revived, live_name, renamed, say_of, trace_fate}
-use Rattle.redl_tree.specs.Decisions.Groups.{Piece, given, grouped_from, has_thick, held_by, joined_kids, joined_tag, joins, para, taken, thick, thin, unjoined_para}
+use Rattle.redl_tree.specs.Decisions.Groups.{GroupPiece, given, grouped_from, has_thick, held_by, joined_kids, joined_tag, joins, para, taken, thick, thin, unjoined_para}
 use Rattle.redl_tree.specs.Decisions.Packages.{is_plain}
 use Rattle.redl_tree.specs.Decisions.Pass.{by_fate, element_pass, is_block_para, kept_kids, pass, piece, pieces}
 use Rattle.redl_tree.specs.Decisions.Restored.{after_change, rejected}
@@ -74,22 +74,22 @@ tags-only (element tag kids rest) = at (is "pPr" tag) refl (tags-only rest)
 
 -- ---- lists that are put together
 
-piece_tags : Piece → List Tag
+piece_tags : GroupPiece → List Tag
 piece_tags (para tag cut kids) = tags kids
 piece_tags (thin nodes) = tags nodes
 piece_tags (thick nodes) = tags nodes
 
-pieces_tags : List Piece → List Tag
+pieces_tags : List GroupPiece → List Tag
 pieces_tags [] = []
 pieces_tags (p ∷ ps) = piece_tags p ++ pieces_tags ps
 
 -- the paragraphs among these are no marks
-abbrev IsPlainPiece : Piece → Type 0
+abbrev IsPlainPiece : GroupPiece → Type 0
 IsPlainPiece (para tag cut kids) = is_mark tag ≡ false
 IsPlainPiece (thin nodes) = Unit {0}
 IsPlainPiece (thick nodes) = Unit {0}
 
-abbrev ArePlain : List Piece → Type 0
+abbrev ArePlain : List GroupPiece → Type 0
 ArePlain [] = Unit {0}
 ArePlain (p ∷ ps) = IsPlainPiece p × ArePlain ps
 
@@ -127,7 +127,7 @@ mark-joined : (held : Option Nodes) (tag : Tag) → is_mark tag ≡ false → is
 mark-joined None tag m = m
 mark-joined (Some held) tag m = m
 
-tags-given : (p : Piece) (held : Option Nodes) (joins followed : Bool) (ps : List Piece) → IsLoudPiece p → IsPlainPiece p → Takes held (p ∷ ps)
+tags-given : (p : GroupPiece) (held : Option Nodes) (joins followed : Bool) (ps : List GroupPiece) → IsLoudPiece p → IsPlainPiece p → Takes held (p ∷ ps)
     → tags (given p held joins followed) ++ held_tags (held_by p held joins) ≡ held_tags held ++ piece_tags p
 unfolding held_tags piece_tags
 tags-given (para tag cut kids) held true followed ps l m t = tags-taken held kids
@@ -140,7 +140,7 @@ tags-given (thick nodes) None joins followed ps l m t = append-nil (tags nodes)
 tags-given (thick nodes) (Some held) joins followed ps l m t = absurd (true≢false (sym t))
 
 -- joining and dissolving paragraphs leaves the marks as they are
-tags-grouped : (followed : Bool) (held : Option Nodes) (ps : List Piece) → AreLoud ps → ArePlain ps → Takes held ps
+tags-grouped : (followed : Bool) (held : Option Nodes) (ps : List GroupPiece) → AreLoud ps → ArePlain ps → Takes held ps
     → tags (grouped_from followed held ps) ≡ held_tags held ++ pieces_tags ps
 unfolding held_tags pieces_tags
 tags-grouped followed None [] l m t = refl
@@ -365,7 +365,7 @@ pieces_plain says ancestors (element tag kids rest) o fit = (
   pieces_plain says ancestors rest o fit.2,
 )
 
-tags-alone : (p : Piece) → IsLoudPiece p → IsPlainPiece p → piece_tags p ≡ tags (alone p)
+tags-alone : (p : GroupPiece) → IsLoudPiece p → IsPlainPiece p → piece_tags p ≡ tags (alone p)
 unfolding piece_tags
 tags-alone (para tag cut kids) q m =
     sym (tags-one tag kids ∙ cond-false (is_quiet tag) [] (own tag ++ tags kids) q ∙ ap (λ (o : List Tag). o ++ tags kids) (cond-false (is_mark tag) (tag ∷ []) [] m))

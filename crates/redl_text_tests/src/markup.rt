@@ -1,6 +1,6 @@
 //! Tables of what no clause of `redl_markup` says: that its grammar is the one of XML 1.0 and Namespaces in XML 1.0, and
 //! that calls succeed with ample memory, in time that grows no faster than the text.
-use redl_grammar::Place;
+use redl_grammar::Section;
 use redl_markup::{MarkupError, Name, Piece, decode_value, is_text, next_attribute, next_piece};
 use std::alloc::{AllocError, Global};
 use std::test::Fail;
@@ -11,7 +11,7 @@ fn shown(bytes: &[u8]) -> &str {
 }
 
 // The first piece: its kind, its prefix and local name, and its tail, white space or text.
-fn first_piece(alloc: Global, text: &[u8], place: Place) -> (&'static str, &[u8], &[u8], &[u8]) {
+fn first_piece(alloc: Global, text: &[u8], place: Section) -> (&'static str, &[u8], &[u8], &[u8]) {
     match next_piece(alloc, &mut Vec::new(alloc), text, place) {
         Ok((Piece::Start(tag), _)) => ("start", tag.name().prefix, tag.name().local, tag.tail()),
         Ok((Piece::Empty(tag), _)) => ("empty", tag.name().prefix, tag.name().local, tag.tail()),
@@ -90,7 +90,7 @@ const TAGS: &[(&str, &str, &str, &str, &str)] = &[
 #[test]
 fn tags_have_a_name_and_a_tail(rt: HostRuntime) {
     for &(text, kind, prefix, local, tail) in TAGS {
-        let got = first_piece(rt.alloc(), text.as_bytes(), Place::InElement);
+        let got = first_piece(rt.alloc(), text.as_bytes(), Section::InElement);
         let want = (kind, prefix.as_bytes(), local.as_bytes(), tail.as_bytes());
         assert!(rt; got == want, "{text}: {got:?}");
     }
@@ -98,8 +98,12 @@ fn tags_have_a_name_and_a_tail(rt: HostRuntime) {
 
 // The text of the start tag at the front, how many attributes it has, and the name of the last one.
 fn start_tag(alloc: Global, text: &[u8]) -> Option<(&[u8], usize, Name<'_>)> {
-    let Ok((Piece::Start(tag), _)) = next_piece(alloc, &mut Vec::new(alloc), text, Place::InElement)
-    else {
+    let Ok((Piece::Start(tag), _)) = next_piece(
+        alloc,
+        &mut Vec::new(alloc),
+        text,
+        Section::InElement,
+    ) else {
         return None;
     };
     let names = tag.attributes();
@@ -117,56 +121,56 @@ fn a_start_tag_has_its_text_and_the_names_of_its_attributes(rt: HostRuntime) {
     assert!(rt; got == Some(want), "{got:?}");
 }
 
-const STRETCHES: &[(Place, &str, &str)] = &[
-    (Place::BeforeRoot, "\u{FEFF}<a/>", "\u{FEFF}"),
+const STRETCHES: &[(Section, &str, &str)] = &[
+    (Section::BeforeRoot, "\u{FEFF}<a/>", "\u{FEFF}"),
     (
-        Place::BeforeRoot,
+        Section::BeforeRoot,
         "<?xml version=\"1.0\"?><a/>",
         "<?xml version=\"1.0\"?>",
     ),
     (
-        Place::BeforeRoot,
+        Section::BeforeRoot,
         "\u{FEFF}<?xml version='1.10' encoding = 'utf-8' standalone='yes' ?>\n<a/>",
         "\u{FEFF}<?xml version='1.10' encoding = 'utf-8' standalone='yes' ?>\n",
     ),
     (
-        Place::BeforeRoot,
+        Section::BeforeRoot,
         "<?xml\tversion = '1.0'\r\nstandalone\n=\t\"no\" \n?><a/>",
         "<?xml\tversion = '1.0'\r\nstandalone\n=\t\"no\" \n?>",
     ),
     (
-        Place::BeforeRoot,
+        Section::BeforeRoot,
         " \t<!--c--><?xml-s a?>\r\n<a/>",
         " \t<!--c--><?xml-s a?>\r\n",
     ),
-    (Place::BeforeRoot, "<?p?>", "<?p?>"),
+    (Section::BeforeRoot, "<?p?>", "<?p?>"),
     (
-        Place::AfterRoot,
+        Section::AfterRoot,
         " \r\n<!--c--><?p a?b >?>",
         " \r\n<!--c--><?p a?b >?>",
     ),
     (
-        Place::InElement,
+        Section::InElement,
         "<![CDATA[<b>]]>&lt;</a>",
         "<![CDATA[<b>]]>&lt;",
     ),
     (
-        Place::InElement,
+        Section::InElement,
         "]] > ]]&gt;<![CDATA[]]]]><!----><!-- - & <b> - - -->\"'=/;#</a>",
         "]] > ]]&gt;<![CDATA[]]]]><!----><!-- - & <b> - - -->\"'=/;#",
     ),
     (
-        Place::InElement,
+        Section::InElement,
         "&amp;&lt;&gt;&quot;&apos;&#9;&#0065;&#x0041;&#xfFfD;&#x10FFFF;&#1114111;<b>",
         "&amp;&lt;&gt;&quot;&apos;&#9;&#0065;&#x0041;&#xfFfD;&#x10FFFF;&#1114111;",
     ),
-    (Place::InElement, "<?a:b:c ?> ??>x<b/>", "<?a:b:c ?> ??>x"),
+    (Section::InElement, "<?a:b:c ?> ??>x<b/>", "<?a:b:c ?> ??>x"),
     (
-        Place::InElement,
+        Section::InElement,
         "<?:p\u{B7} text > <b>?>",
         "<?:p\u{B7} text > <b>?>",
     ),
-    (Place::InElement, "\u{FEFF}<a/>", "\u{FEFF}"),
+    (Section::InElement, "\u{FEFF}<a/>", "\u{FEFF}"),
 ];
 
 #[test]
@@ -337,11 +341,11 @@ const WRONG_AFTER_ROOT: &[&str] = &[
 #[test]
 fn other_texts_have_no_piece_at_their_start(rt: HostRuntime) {
     for (place, texts) in [
-        (Place::InElement, WRONG_TAGS),
-        (Place::InElement, WRONG_ITEMS),
-        (Place::InElement, WRONG_REFERENCES),
-        (Place::BeforeRoot, WRONG_BEFORE_ROOT),
-        (Place::AfterRoot, WRONG_AFTER_ROOT),
+        (Section::InElement, WRONG_TAGS),
+        (Section::InElement, WRONG_ITEMS),
+        (Section::InElement, WRONG_REFERENCES),
+        (Section::BeforeRoot, WRONG_BEFORE_ROOT),
+        (Section::AfterRoot, WRONG_AFTER_ROOT),
     ] {
         for text in texts {
             let got = first_piece(rt.alloc(), text.as_bytes(), place).0;
@@ -483,7 +487,7 @@ fn begins_with(
     want: &str,
 ) -> Result<bool, AllocError> {
     let text = repeated(alloc, start, part, 2_000_000, end)?;
-    Ok(first_piece(alloc, &text, Place::InElement).0 == want)
+    Ok(first_piece(alloc, &text, Section::InElement).0 == want)
 }
 
 // A reading that took more than linear time would hardly end here, nor in the next test.
@@ -512,6 +516,6 @@ fn a_tag_may_have_a_hundred_thousand_attributes(rt: HostRuntime) -> Result<(), F
         push_attribute(rt.alloc(), &mut tag, number)?;
     }
     tag.extend_from_slice(b"/>")?;
-    assert!(rt; first_piece(rt.alloc(), &tag, Place::InElement).0 == "empty");
+    assert!(rt; first_piece(rt.alloc(), &tag, Section::InElement).0 == "empty");
     Ok(())
 }

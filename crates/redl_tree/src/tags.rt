@@ -48,7 +48,7 @@ impl<'a> Model for Tag<'a> {
 
 // The local name in a start tag with this text, where the prefix has `prefix` bytes and the name `name` bytes.
 #[inline(always)]
-fn local_read(text: &[u8], prefix: u32, name: u32) -> &[u8]
+fn local_name_in(text: &[u8], prefix: u32, name: u32) -> &[u8]
     requires { IsCut text.now prefix name }
     ensures { result.now ≡ local_in text.now prefix name }
 {
@@ -61,7 +61,7 @@ fn local_read(text: &[u8], prefix: u32, name: u32) -> &[u8]
 
 // The name in it, with its prefix and colon.
 #[inline(always)]
-fn name_read(text: &[u8], prefix: u32, name: u32) -> &[u8]
+fn full_name_in(text: &[u8], prefix: u32, name: u32) -> &[u8]
     requires { IsCut text.now prefix name }
     ensures { result.now ≡ name_text (take prefix text.now) (local_in text.now prefix name) }
 {
@@ -70,7 +70,7 @@ fn name_read(text: &[u8], prefix: u32, name: u32) -> &[u8]
 
 // All of it: the name and the tail.
 #[inline(always)]
-fn text_read(text: &[u8], prefix: u32, name: u32) -> &[u8]
+fn tag_text_in(text: &[u8], prefix: u32, name: u32) -> &[u8]
     requires { IsCut text.now prefix name }
     ensures { result.now ≡ name_text (take prefix text.now) (local_in text.now prefix name) ++ drop name text.now }
 {
@@ -99,7 +99,7 @@ impl<'a> Tag<'a> {
             rev: 0,
             kind: Kind::Plain,
             space,
-            word: number_in(space, local_read(text, prefix, name)),
+            word: number_in(space, local_name_in(text, prefix, name)),
         }
     }
 
@@ -133,7 +133,7 @@ impl<'a> Tag<'a> {
         match self.word {
             TEXT => b"t",
             INSTRUCTION => b"instrText",
-            _ => local_read(self.text, self.prefix, self.name),
+            _ => local_name_in(self.text, self.prefix, self.name),
         }
     }
 
@@ -208,23 +208,23 @@ impl<'a> Tag<'a> {
 
     /// The name as it stands in the input, if the element has that name still.
     #[tactic(auto, using(crate::proofs::Roles::WordLaws::own_name))]
-    pub fn name_read(&self) -> Option<&'a [u8]>
+    pub fn name_in_input(&self) -> Option<&'a [u8]>
         ensures { IfSome result (λ name. name.now ≡ name_text self.now.prefix self.now.local) }
     {
         if is_live(self.word) {
             return None;
         }
-        Some(name_read(self.text, self.prefix, self.name))
+        Some(full_name_in(self.text, self.prefix, self.name))
     }
 
     /// All between `<` and `>` or `/>` as it stands in the input, if the element has its name from there still.
     #[tactic(auto, using(crate::proofs::Roles::WordLaws::own_name))]
-    pub fn text_read(&self) -> Option<&'a [u8]>
+    pub fn text_in_input(&self) -> Option<&'a [u8]>
         ensures { IfSome result (λ text. text.now ≡ name_text self.now.prefix self.now.local ++ self.now.tail) }
     {
         if is_live(self.word) {
             return None;
         }
-        Some(text_read(self.text, self.prefix, self.name))
+        Some(tag_text_in(self.text, self.prefix, self.name))
     }
 }

@@ -270,9 +270,9 @@ fn members_among_texts_are_labelled(rt: HostRuntime) -> Result<(), Fail> {
 }
 
 // What a revision is, who made it and when, its part, and how many members it has.
-type Told<'a> = (RevKind, &'a [u8], Option<i64>, u32, u32);
+type RevisionFacts<'a> = (RevKind, &'a [u8], Option<i64>, u32, u32);
 
-fn told(index: &Index, number: u32) -> Option<Told<'_>> {
+fn told(index: &Index, number: u32) -> Option<RevisionFacts<'_>> {
     let found = index.get(number)?;
     Some((
         found.kind,
@@ -300,7 +300,7 @@ const TOLD_AMONG_TEXTS: [&str; 5] = [
     "endnotes .fs/1/a/author=Ann .r .fe/1 .r .ts/2/a/author=Cid/date=2024-05-06T07:08:09Z .r .te/2",
 ];
 
-const TOLD: [(u32, Option<Told>); 8] = [
+const TOLD: [(u32, Option<RevisionFacts>); 8] = [
     (0, None),
     (
         1,

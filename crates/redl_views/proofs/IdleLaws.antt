@@ -25,7 +25,7 @@ use Rattle.redl_idle.specs.Shows.{shows}
 use Rattle.redl_idle.proofs.RoleLaws.{name_same, quiet_same}
 use Rattle.redl_views.specs.declared.idle.Below.{Below}
 use Rattle.redl_views.specs.declared.next.Next.TheVariants.{Nothing, Paragraph, Other}
-use Rattle.redl_views.specs.declared.summary.Summary.{Summary}
+use Rattle.redl_views.specs.declared.summary.ViewSummary.{ViewSummary}
 use Rattle.redl_views.specs.Idle.{inside_idle, idle_rule, idle_shown}
 use Rattle.redl_views.specs.PlainText.{start_shown}
 use Rattle.redl_views.specs.Ends.{by_fate_of, has_taken}
@@ -38,17 +38,17 @@ pub start_same : (in_run : Bool) (tag : Tag) → Idle in_run tag → start_shown
 start_same in_run tag i =
     ap (λ w. if (w && bytes_eq tag.local (codes "tab")) then 9 ∷ [] else if ((w && bytes_eq tag.local (codes "br")) || ((w && bytes_eq tag.local (codes "cr")) || false)) then 10 ∷ [] else []) i.space
 
-stays : (says : List Say) (above : Summary) (in_run : Bool) (tag : Tag) (kids : Nodes) → Idle in_run tag → goes_at says above.ancestors.site.place tag kids ≡ false
+stays : (says : List Say) (above : ViewSummary) (in_run : Bool) (tag : Tag) (kids : Nodes) → Idle in_run tag → goes_at says above.ancestors.site.place tag kids ≡ false
 stays says above in_run tag kids i = ap (λ m. m && goes says (is_cell_list above.ancestors.site.place) tag kids) (none above.ancestors.site.place) where
   none : (here : Place) → may_go here tag ≡ false
   none here = rw (has-not "tc" in_run tag i refl, has-not "tr" in_run tag i refl, has-not "tbl" in_run tag i refl, has-not "sdt" in_run tag i refl, has-not "customXml" in_run tag i refl) refl
 
-no_para : (says : List Say) (above : Summary) (in_run : Bool) (tag : Tag) → Idle in_run tag → is_block_para says above.ancestors.site.place tag ≡ false
+no_para : (says : List Say) (above : ViewSummary) (in_run : Bool) (tag : Tag) → Idle in_run tag → is_block_para says above.ancestors.site.place tag ≡ false
 no_para says above in_run tag i = ap (λ p. p && is_block_list above.ancestors.site.place && is_leave (fate_of says tag)) (has-not "p" in_run tag i refl)
 
 -- ---- what follows, what is given, and what is taken up
 
-next_past : (says : List Say) (above : Summary) (in_run : Bool) (x y : Nodes) → is_idle_in in_run x ≡ true → next_of says above (x ⊕ y) ≡ next_of says above y
+next_past : (says : List Say) (above : ViewSummary) (in_run : Bool) (x y : Nodes) → is_idle_in in_run x ≡ true → next_of says above (x ⊕ y) ≡ next_of says above y
 next_past says above in_run no_nodes y h = refl
 next_past says above in_run (bytes b rest) y h = next_past says above in_run rest y h
 next_past says above in_run (element tag kids rest) y h =
@@ -58,13 +58,13 @@ next_past says above in_run (element tag kids rest) y h =
     ∙ ap (λ b. if b then Other else Nothing) (thick_none in_run tag p.own) in
     ap (λ n. or_next n (next_of says above (rest ⊕ y))) none ∙ next_past says above in_run rest y p.later
 
-gives_one : (says : List Say) (above : Summary) (in_run : Bool) (tag : Tag) (kids : Nodes) (full : Bool) → Idle in_run tag → is "pPr" tag ≡ false → one_gives says above tag kids full ≡ true
+gives_one : (says : List Say) (above : ViewSummary) (in_run : Bool) (tag : Tag) (kids : Nodes) (full : Bool) → Idle in_run tag → is "pPr" tag ≡ false → one_gives says above tag kids full ≡ true
 gives_one says above in_run tag kids full i e =
     let own = not (is "pPr" tag) && not (goes_at says above.ancestors.site.place tag kids) in
     ap (λ k. by_fate_of (fate k (say_of says tag.rev)) (is_content k) full own false) i.kind
     ∙ ap (λ p. not p && not (goes_at says above.ancestors.site.place tag kids)) e ∙ ap not (stays says above in_run tag kids i)
 
-gives_past : (says : List Say) (above : Summary) (in_run : Bool) (x y : Nodes) → is_idle_in in_run x ≡ true → has_element x ≡ true → gives says above (x ⊕ y) ≡ true
+gives_past : (says : List Say) (above : ViewSummary) (in_run : Bool) (x y : Nodes) → is_idle_in in_run x ≡ true → has_element x ≡ true → gives says above (x ⊕ y) ≡ true
 gives_past says above in_run no_nodes y h some = absurd cc
 gives_past says above in_run (bytes b rest) y h some = gives_past says above in_run rest y h some
 gives_past says above in_run (element tag kids rest) y h some =
@@ -78,7 +78,7 @@ taken_past no_nodes taken = taken
 taken_past (bytes b rest) taken = taken_past rest taken
 taken_past (element tag kids rest) taken = taken_past rest (option_map (λ b. b || true) taken)
 
-taken_one : (says : List Say) (above : Summary) (taken : Option Bool) (in_run : Bool) (tag : Tag) (kids rest : Nodes) (full : Bool) → Idle in_run tag → is "pPr" tag ≡ false
+taken_one : (says : List Say) (above : ViewSummary) (taken : Option Bool) (in_run : Bool) (tag : Tag) (kids rest : Nodes) (full : Bool) → Idle in_run tag → is "pPr" tag ≡ false
     → taken_after says above taken tag kids rest full ≡ option_map (λ b. b || true) taken
 taken_one says above taken in_run tag kids rest full i e =
     let later = if is_thick tag then None else option_map (λ b. b || one_gives says above tag kids full) taken in
@@ -117,7 +117,7 @@ quiet_shows (element tag kids rest) below q s =
 abbrev beside : Bool → Below
 beside in_t = record { quiet = false; shown = in_t }
 
-elem_one : (says : List Say) (above : Summary) (in_run : Bool) (tag : Tag) (kids : Nodes) (inner : List ℕ) (loses : Bool) → Idle in_run tag
+elem_one : (says : List Say) (above : ViewSummary) (in_run : Bool) (tag : Tag) (kids : Nodes) (inner : List ℕ) (loses : Bool) → Idle in_run tag
     → elem_view says above tag kids inner loses ≡ (if is_quiet tag then [] else start_shown tag ++ (inner ++ []))
 elem_one says above in_run tag kids inner loses i =
     let open_text = λ (p : Bool). start_shown tag ++ (inner ++ (if loses then [] else if p then 10 ∷ [] else [])) in
@@ -132,13 +132,13 @@ elem_one says above in_run tag kids inner loses i =
     by_case false true = refl
     by_case false false = refl
 
-text_one : (says : List Say) (above : Summary) (in_run : Bool) (tag : Tag) → Idle in_run tag → (summary_inside says tag above).shown ≡ is "t" (of_w tag.local)
+text_one : (says : List Say) (above : ViewSummary) (in_run : Bool) (tag : Tag) → Idle in_run tag → (summary_inside says tag above).shown ≡ is "t" (of_w tag.local)
 text_one says above in_run tag i =
     ap (λ k. if is_content k && is_free (fate k (say_of says tag.rev)) then above.shown else is_text above tag) i.kind
     ∙ ap (λ d. is "t" tag || (revives above.ancestors && d)) (has-not "delText" in_run tag i refl)
     ∙ ap (λ b. is "t" tag || b) (and-false (revives above.ancestors)) ∙ or-false (is "t" tag) ∙ name_same in_run tag i (codes "t")
 
-module _ (says : List Say) (above : Summary) (in_run : Bool) (tag : Tag) (kids : Nodes) (i : Idle in_run tag) where
+module _ (says : List Say) (above : ViewSummary) (in_run : Bool) (tag : Tag) (kids : Nodes) (i : Idle in_run tag) where
   -- given what its kids show
   one_shows : view says (summary_inside says tag above) None kids ≡ shows idle_rule (beside (summary_inside says tag above).shown) kids
       → (if is_quiet tag then [] else start_shown tag ++ (view says (summary_inside says tag above) None kids ++ []))
@@ -160,7 +160,7 @@ module _ (says : List Say) (above : Summary) (in_run : Bool) (tag : Tag) (kids :
           ∙ ap (λ (s : List ℕ). start_shown (of_w tag.local) ++ (s ++ [])) (inner ∙ ap (λ b. shows idle_rule (beside b) kids) (text_one says above in_run tag i))
           ∙ ap (λ q. start_shown (of_w tag.local) ++ (shows idle_rule (record { quiet = q; shown = not q && is "t" (of_w tag.local) }) kids ++ [])) (sym e)
 
-view_past : (says : List Say) (above : Summary) (taken : Option Bool) (in_run : Bool) (x y : Nodes) → is_idle_in in_run x ≡ true
+view_past : (says : List Say) (above : ViewSummary) (taken : Option Bool) (in_run : Bool) (x y : Nodes) → is_idle_in in_run x ≡ true
     → view says above taken (x ⊕ y) ≡ shows idle_rule (beside above.shown) x ++ view says above (taken_past x taken) y
 view_past says above taken in_run no_nodes y h = refl
 view_past says above taken in_run (bytes b rest) y h =
@@ -183,14 +183,14 @@ view_past says above taken in_run (element tag kids rest) y h =
 
 -- ---- a text of idle elements
 
-pub view_idle : (says : List Say) (above : Summary) (taken : Option Bool) (t : List ℕ) (rest : Nodes)
+pub view_idle : (says : List Say) (above : ViewSummary) (taken : Option Bool) (t : List ℕ) (rest : Nodes)
     → view says above taken (idle_nodes t ⊕ rest) ≡ idle_shown above.shown (idle_nodes t) ++ view says above (option_map (λ b. b || true) taken) rest
 view_idle says above taken t rest =
     view_past says above taken false (idle_nodes t) rest (nodes_are_idle t)
     ∙ ap (λ after. idle_shown above.shown (idle_nodes t) ++ view says above after rest) (taken_some (idle_nodes t) taken (element_among t))
 
-pub gives_idle : (says : List Say) (above : Summary) (t : List ℕ) (rest : Nodes) → gives says above (idle_nodes t ⊕ rest) ≡ true
+pub gives_idle : (says : List Say) (above : ViewSummary) (t : List ℕ) (rest : Nodes) → gives says above (idle_nodes t ⊕ rest) ≡ true
 gives_idle says above t rest = gives_past says above false (idle_nodes t) rest (nodes_are_idle t) (element_among t)
 
-pub next_idle : (says : List Say) (above : Summary) (t : List ℕ) (rest : Nodes) → next_of says above (idle_nodes t ⊕ rest) ≡ next_of says above rest
+pub next_idle : (says : List Say) (above : ViewSummary) (t : List ℕ) (rest : Nodes) → next_of says above (idle_nodes t ⊕ rest) ≡ next_of says above rest
 next_idle says above t rest = next_past says above false (idle_nodes t) rest (nodes_are_idle t)

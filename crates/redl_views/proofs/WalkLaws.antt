@@ -20,7 +20,7 @@ use Rattle.redl_tree.proofs.Roles.Fits.{AllFit, open_fits, open_∷}
 use Rattle.redl_tree.proofs.Decisions.PassLaws.{block_p}
 use Rattle.redl_tables.specs.DecidedAncestors.{ancestors_of}
 use Rattle.redl_tables.specs.Places as by_place
-use Rattle.redl_views.specs.declared.summary.Summary.{Summary}
+use Rattle.redl_views.specs.declared.summary.ViewSummary.{ViewSummary}
 use Rattle.redl_views.specs.declared.next.Next.{Next}
 use Rattle.redl_views.specs.declared.next.Next.TheVariants.{Nothing, Paragraph, Other}
 use Rattle.redl_views.specs.PlainText.{start_shown, end_shown}
@@ -120,13 +120,13 @@ taken-after says ancestors taken tag kids rest a h f =
     (one-gives says ancestors tag kids a b f)
 
 -- a cut paragraph has its name
-cut_name : (says : List Say) (above : Summary) (tag : Tag) (kids : Nodes) → is_cut_para says above tag kids ≡ true → is "p" tag ≡ true
+cut_name : (says : List Say) (above : ViewSummary) (tag : Tag) (kids : Nodes) → is_cut_para says above tag kids ≡ true → is "p" tag ≡ true
 cut_name says above tag kids c =
     let block = (and_parts (by_place.is_block_para says above.ancestors.site.place tag) (para_is_cut says kids) c).0 in
     (and_parts (is "p" tag) (is_block_list above.ancestors.site.place) (and_parts (is "p" tag && is_block_list above.ancestors.site.place) (is_leave (fate_of says tag)) block).0).0
 
 -- so it is no properties
-pub cut_loud : (says : List Say) (above : Summary) (tag : Tag) (kids : Nodes) → is_cut_para says above tag kids ≡ true → is_quiet tag ≡ false
+pub cut_loud : (says : List Say) (above : ViewSummary) (tag : Tag) (kids : Nodes) → is_cut_para says above tag kids ≡ true → is_quiet tag ≡ false
 cut_loud says above tag kids c = by_name (λ t. is_quiet t ≡ false) "p" tag (cut_name says above tag kids c) refl
 
 gives-walk : (says : List Say) (ancestors : List Tag) (nodes : Nodes) → is_open ancestors ≡ true → AllFit ancestors nodes → gives says (summary_of says ancestors) nodes ≡ gives_element says ancestors nodes
@@ -192,18 +192,18 @@ apart_fate Restore c q g x y gone h k = refl
 apart_fate Drop c q g x y gone h k = refl
 
 -- an element that is not freed and not walked shows nothing
-pub view-apart : (says : List Say) (above : Summary) (tag : Tag) (kids : Nodes) (inner : List ℕ) (loses : Bool) → is_freed says tag ≡ false → is_walked says above tag kids ≡ false →
+pub view-apart : (says : List Say) (above : ViewSummary) (tag : Tag) (kids : Nodes) (inner : List ℕ) (loses : Bool) → is_freed says tag ≡ false → is_walked says above tag kids ≡ false →
     elem_view says above tag kids inner loses ≡ []
 view-apart says above tag kids inner loses f w =
     apart_fate (fate_of says tag) (is_content tag.kind) (is_quiet tag) (by_place.goes_at says above.ancestors.site.place tag kids) inner (start_shown tag ++ (inner ++ (if loses then [] else end_shown tag))) [] f w
 
 -- what it tells its list does not depend on its kids
-pub gives-apart : (says : List Say) (above : Summary) (tag : Tag) (kids : Nodes) (a b : Bool) → is_freed says tag ≡ false → one_gives says above tag kids a ≡ one_gives says above tag kids b
+pub gives-apart : (says : List Say) (above : ViewSummary) (tag : Tag) (kids : Nodes) (a b : Bool) → is_freed says tag ≡ false → one_gives says above tag kids a ≡ one_gives says above tag kids b
 gives-apart says above tag kids a b f =
     let own = not (is "pPr" tag) && not (by_place.goes_at says above.ancestors.site.place tag kids) in
     alike (fate_of says tag) (is_content tag.kind) a b own own false (λ e. absurd (true≢false (sym e ∙ f))) (λ e. refl)
 
-not_cut : (says : List Say) (above : Summary) (tag : Tag) (kids : Nodes) → is_walked says above tag kids ≡ false → is_cut_para says above tag kids ≡ false
+not_cut : (says : List Say) (above : ViewSummary) (tag : Tag) (kids : Nodes) → is_walked says above tag kids ≡ false → is_cut_para says above tag kids ≡ false
 not_cut says above tag kids w = at (is_cut_para says above tag kids) refl
   where
     at : (b : Bool) → is_cut_para says above tag kids ≡ b → is_cut_para says above tag kids ≡ false
@@ -218,7 +218,7 @@ not_cut says above tag kids w = at (is_cut_para says above tag kids) refl
         ap (λ b. (b && not (is_quiet tag)) && not (by_place.goes_at says above.ancestors.site.place tag kids)) parts.1 ∙ ap (λ b. not b && not (by_place.goes_at says above.ancestors.site.place tag kids)) quiet ∙ ap not going in
         absurd (true≢false (sym walked ∙ w))
 
-pub taken-apart : (says : List Say) (above : Summary) (taken : Option Bool) (tag : Tag) (kids rest : Nodes) (a b : Bool) → is_freed says tag ≡ false → is_walked says above tag kids ≡ false →
+pub taken-apart : (says : List Say) (above : ViewSummary) (taken : Option Bool) (tag : Tag) (kids rest : Nodes) (a b : Bool) → is_freed says tag ≡ false → is_walked says above tag kids ≡ false →
     taken_after says above taken tag kids rest a ≡ taken_after says above taken tag kids rest b
 taken-apart says above taken tag kids rest a b f w =
     taken-if (is_cut_para says above tag kids) (is_paragraph (next_of says above rest)) (is_thick tag) a b (one_gives says above tag kids a) (one_gives says above tag kids b) taken
@@ -236,7 +236,7 @@ walked_fate Restore c q g x y gone k = absurd (true≢false (sym k))
 walked_fate Drop c q g x y gone k = absurd (true≢false (sym k))
 
 -- an element that is walked shows its start, what its kids show, and its end
-pub view-walked : (says : List Say) (above : Summary) (tag : Tag) (kids : Nodes) (inner : List ℕ) (loses : Bool) → is_walked says above tag kids ≡ true →
+pub view-walked : (says : List Say) (above : ViewSummary) (tag : Tag) (kids : Nodes) (inner : List ℕ) (loses : Bool) → is_walked says above tag kids ≡ true →
     elem_view says above tag kids inner loses ≡ start_shown tag ++ (inner ++ (if loses then [] else end_shown tag))
 view-walked says above tag kids inner loses w =
     walked_fate (fate_of says tag) (is_content tag.kind) (is_quiet tag) (by_place.goes_at says above.ancestors.site.place tag kids) inner (start_shown tag ++ (inner ++ (if loses then [] else end_shown tag))) [] w
@@ -253,36 +253,36 @@ walked_one Restore c q g p full h k = absurd (true≢false (sym k))
 walked_one Drop c q g p full h k = absurd (true≢false (sym k))
 
 -- it becomes an element, and no properties of a paragraph
-pub gives-walked : (says : List Say) (above : Summary) (tag : Tag) (kids : Nodes) (full : Bool) → is_walked says above tag kids ≡ true → one_gives says above tag kids full ≡ true
+pub gives-walked : (says : List Say) (above : ViewSummary) (tag : Tag) (kids : Nodes) (full : Bool) → is_walked says above tag kids ≡ true → one_gives says above tag kids full ≡ true
 gives-walked says above tag kids full w =
     walked_one (fate_of says tag) (is_content tag.kind) (is_quiet tag) (by_place.goes_at says above.ancestors.site.place tag kids) (is "pPr" tag) full
     (λ e. by_name (λ t. is_quiet t ≡ true) "pPr" tag e refl) w
 
 -- ---- the nodes of a list, one after the other
 
-pub view-in_front : (says : List Say) (above : Summary) (taken : Option Bool) (x : Item) (rest : Nodes) →
+pub view-in_front : (says : List Say) (above : ViewSummary) (taken : Option Bool) (x : Item) (rest : Nodes) →
     view says above taken (in_front x rest) ≡ item_view says above taken x rest ++ view says above (item_taken says above taken x rest) rest
 view-in_front says above taken (bytes_item b) rest = refl
 view-in_front says above taken (element_item tag kids) rest = refl
 view-in_front says above taken (idle_item t) rest = view_idle says above taken t rest
 
-pub gives-in_front : (says : List Say) (above : Summary) (x : Item) (rest : Nodes) → gives says above (in_front x rest) ≡ (item_gives says above x || gives says above rest)
+pub gives-in_front : (says : List Say) (above : ViewSummary) (x : Item) (rest : Nodes) → gives says above (in_front x rest) ≡ (item_gives says above x || gives says above rest)
 gives-in_front says above (bytes_item b) rest = refl
 gives-in_front says above (element_item tag kids) rest = refl
 gives-in_front says above (idle_item t) rest = gives_idle says above t rest
 
-pub next-in_front : (says : List Say) (above : Summary) (x : Item) (rest : Nodes) → next_of says above (in_front x rest) ≡ or_next (item_next says above x) (next_of says above rest)
+pub next-in_front : (says : List Say) (above : ViewSummary) (x : Item) (rest : Nodes) → next_of says above (in_front x rest) ≡ or_next (item_next says above x) (next_of says above rest)
 next-in_front says above (bytes_item b) rest = refl
 next-in_front says above (element_item tag kids) rest = refl
 next-in_front says above (idle_item t) rest = next_idle says above t rest
 
-pub gives-more : (says : List Say) (above : Summary) (x : Item) (left rest : Nodes) (a own whole : Bool) → left ≡ in_front x rest → own ≡ item_gives says above x → (a || gives says above left) ≡ whole →
+pub gives-more : (says : List Say) (above : ViewSummary) (x : Item) (left rest : Nodes) (a own whole : Bool) → left ≡ in_front x rest → own ≡ item_gives says above x → (a || gives says above left) ≡ whole →
     ((a || own) || gives says above rest) ≡ whole
 gives-more says above x left rest a own whole e o h =
     or_assoc a own (gives says above rest) ∙ ap (λ b. a || (b || gives says above rest)) o ∙ ap (λ b. a || b) (sym (gives-in_front says above x rest)) ∙ ap (λ n. a || gives says above n) (sym e) ∙ h
 
 -- the same with the summary, the kids and the end that the code has
-pub walked-text : (says : List Say) (above : Summary) (tag : Tag) (kids : Nodes) (inside : Summary) (nodes : Nodes) (loses own : Bool) →
+pub walked-text : (says : List Say) (above : ViewSummary) (tag : Tag) (kids : Nodes) (inside : ViewSummary) (nodes : Nodes) (loses own : Bool) →
     is_walked says above tag kids ≡ true → inside ≡ summary_inside says tag above → nodes ≡ kids → loses ≡ own →
     elem_view says above tag kids (view says (summary_inside says tag above) None kids) loses ≡ start_shown tag ++ (view says inside None nodes ++ (if own then [] else end_shown tag))
 walked-text says above tag kids inside nodes loses own w i n l =
@@ -291,7 +291,7 @@ walked-text says above tag kids inside nodes loses own w i n l =
     ∙ ap (λ k. start_shown tag ++ (view says inside None k ++ (if loses then [] else end_shown tag))) (sym n)
     ∙ ap (λ b. start_shown tag ++ (view says inside None nodes ++ (if b then [] else end_shown tag))) l
 
-pub loses-text : (says : List Say) (above : Summary) (taken : Option Bool) (tag : Tag) (kids rest : Nodes) (inside : Summary) (nodes : Nodes) (full own : Bool) →
+pub loses-text : (says : List Say) (above : ViewSummary) (taken : Option Bool) (tag : Tag) (kids rest : Nodes) (inside : ViewSummary) (nodes : Nodes) (full own : Bool) →
     inside ≡ summary_inside says tag above → nodes ≡ kids → full ≡ gives says inside nodes → own ≡ loses_end says above taken tag kids rest full →
     loses_end says above taken tag kids rest (gives says (summary_inside says tag above) kids) ≡ own
 loses-text says above taken tag kids rest inside nodes full own i n f o =

@@ -20,7 +20,7 @@ ghost use Rattle.redl_views.specs.Walks.{view, gives, item_view, item_gives, ite
 
 use crate::idle::put_idle;
 use crate::next::{Next, next_of};
-use crate::summary::{Summary, inside, is_cut_para};
+use crate::summary::{ViewSummary, inside, is_cut_para};
 use redl_io::{Failed, Sink, put_piece};
 use redl_shown::put_shown;
 use redl_tables::{fate_of, goes_at};
@@ -40,7 +40,7 @@ pub(crate) struct Step {
 pub(crate) fn view_nodes<K: Sink>(
     nodes: &[Node],
     says: &[Say],
-    above: Summary,
+    above: ViewSummary,
     out: &mut K,
 ) -> Result<bool, Failed>
     ensures puts { Puts K.told K.faults K.settled K.lenders out.old out.new (view says.now above None (nodes_of nodes.now)) result }
@@ -67,7 +67,7 @@ fn view_node<K: Sink>(
     node: &Node,
     rest: &[Node],
     says: &[Say],
-    above: Summary,
+    above: ViewSummary,
     taken: Option<bool>,
     out: &mut K,
 ) -> Result<Step, Failed>
@@ -84,7 +84,7 @@ fn view_node<K: Sink>(
 
 fn view_plain<K: Sink>(
     plain: &Plain<'_>,
-    above: Summary,
+    above: ViewSummary,
     taken: Option<bool>,
     out: &mut K,
 ) -> Result<Step, Failed>
@@ -101,7 +101,7 @@ fn view_plain<K: Sink>(
 
 fn view_bytes<K: Sink>(
     text: &[u8],
-    above: Summary,
+    above: ViewSummary,
     taken: Option<bool>,
     out: &mut K,
 ) -> Result<Step, Failed>
@@ -123,7 +123,7 @@ fn view_elem<K: Sink>(
     elem: &Elem,
     rest: &[Node],
     says: &[Say],
-    above: Summary,
+    above: ViewSummary,
     taken: Option<bool>,
     out: &mut K,
 ) -> Result<Step, Failed>
@@ -154,7 +154,7 @@ fn is_freed(says: &[Say], elem: &Elem) -> bool
 }
 
 // Whether an element stays and may show something: it holds no properties, and is no table, row, cell or shell that goes.
-fn is_walked(says: &[Say], elem: &Elem, above: Summary) -> bool
+fn is_walked(says: &[Say], elem: &Elem, above: ViewSummary) -> bool
     ensures { result ≡ is_walked_by says.now above (tag_of elem.now) (kids_of elem.now) }
 {
     fate_of(says, elem) == Fate::Leave
@@ -167,7 +167,7 @@ fn answer(
     elem: &Elem,
     rest: &[Node],
     says: &[Say],
-    above: Summary,
+    above: ViewSummary,
     taken: Option<bool>,
     full: bool,
 ) -> Step
@@ -186,7 +186,7 @@ fn answer_of_walked(
     elem: &Elem,
     rest: &[Node],
     says: &[Say],
-    above: Summary,
+    above: ViewSummary,
     taken: Option<bool>,
     full: bool,
 ) -> Step
@@ -200,7 +200,7 @@ fn answer_of_walked(
     }
 }
 
-fn one_gives(elem: &Elem, says: &[Say], above: Summary, full: bool) -> bool
+fn one_gives(elem: &Elem, says: &[Say], above: ViewSummary, full: bool) -> bool
     ensures { result ≡ one_gives_by says.now above (tag_of elem.now) (kids_of elem.now) full }
 {
     match fate_of(says, elem) {
@@ -215,7 +215,7 @@ fn taken_after(
     elem: &Elem,
     rest: &[Node],
     says: &[Say],
-    above: Summary,
+    above: ViewSummary,
     taken: Option<bool>,
     full: bool,
     gives: bool,
@@ -256,7 +256,7 @@ fn loses_end(
     elem: &Elem,
     rest: &[Node],
     says: &[Say],
-    above: Summary,
+    above: ViewSummary,
     taken: Option<bool>,
     full: bool,
 ) -> bool

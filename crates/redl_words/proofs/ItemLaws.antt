@@ -26,7 +26,7 @@ use Rattle.redl_words.specs.Reading.Answers.{Fails, Finds}
 use Rattle.redl_words.specs.Reading.Locks.{lock_in}
 use Rattle.redl_words.specs.Reading.Ranks.{rank_in}
 use Rattle.redl_words.specs.Reading.Selections.{selection_in}
-use Rattle.redl_words.specs.Reading.Items.{Goes, Gathered, nothing, with_journal, with_plain_journal, has_plain_journals, reporting_option, deciding_option, paging_option, locking_option, own_option, lock_or, option_in, with_format, with_by, with_rank, with_title, with_option, with_word, gathered}
+use Rattle.redl_words.specs.Reading.Items.{Goes, Gathered, nothing, with_journal, with_plain_journal, has_plain_journals, reporting_option, deciding_option, paging_option, locking_option, option_of_form, lock_or, option_in, with_format, with_by, with_rank, with_title, with_option, with_word, gathered}
 use Rattle.redl_words.specs.Reading.Shown.{only_in}
 use Rattle.redl_words.specs.Shown.{Only, MeansOnly}
 use Rattle.redl_words.proofs.LockLaws.{lock_on, locked_option, no_name, lock_takes, lock_again}
@@ -154,7 +154,7 @@ locking_takes word on e =
       P : Locked → Type 0
       P on = word ≡ locked_option on
 
-own_takes : (form : Form) (word : List ℕ) (o : ItemOption) → own_option form word ≡ Some o → Has form word o
+own_takes : (form : Form) (word : List ℕ) (o : ItemOption) → option_of_form form word ≡ Some o → Has form word o
 own_takes forms.List word o e =
     pick (Has forms.List word) (bytes_eq word (codes "--format")) options.Format _ o e (λ hit. bytes_same word (codes "--format") hit) (λ e.
     pick (Has forms.List word) (bytes_eq word (codes "--only")) options.Only _ o e (λ hit. bytes_same word (codes "--only") hit) (λ e. absurd cc))
@@ -173,7 +173,7 @@ has_lock forms.Decide word on h = h
 option_takes : (form : Form) (word : List ℕ) (o : ItemOption) → option_in form word ≡ Some o → Has form word o
 unfolding option_in
 option_takes form word o e = of (locking_option word) refl e where
-  of : (l : Option Locked) → locking_option word ≡ l → lock_or (own_option form word) l ≡ Some o → Has form word o
+  of : (l : Option Locked) → locking_option word ≡ l → lock_or (option_of_form form word) l ≡ Some o → Has form word o
   of None is e = own_takes form word o e
   of (Some on) is e = subst (Has form word) (same_Some (options.Lock on) o e) (has_lock form word on (locking_takes word on is))
 

@@ -1,7 +1,7 @@
 //! Options: the words that say what the next word is.
 
 ghost use Rattle.std.specs.Prelude.{◌≡◌};
-ghost use Rattle.redl_words.specs.Reading.Items.{option_in, locking_option, own_option, reporting_option, deciding_option, paging_option};
+ghost use Rattle.redl_words.specs.Reading.Items.{option_in, locking_option, option_of_form, reporting_option, deciding_option, paging_option};
 
 use redl_journal::Word;
 
@@ -59,7 +59,7 @@ pub(crate) fn read_option(form: Form, word: &[u8]) -> Option<ItemOption>
 {
     match locking_option(word) {
         Some(locked) => Some(ItemOption::Lock(locked)),
-        None => own_option(form, word),
+        None => option_of_form(form, word),
     }
 }
 
@@ -80,8 +80,8 @@ fn locking_option(word: &[u8]) -> Option<Locked>
 }
 
 // The option that a word is, besides those for locks.
-fn own_option(form: Form, word: &[u8]) -> Option<ItemOption>
-    ensures { result ≡ own_option form word.now }
+fn option_of_form(form: Form, word: &[u8]) -> Option<ItemOption>
+    ensures { result ≡ option_of_form form word.now }
 {
     match form {
         Form::List if word == b"--format".as_slice() => Some(ItemOption::Format),

@@ -12,7 +12,7 @@ use Rattle.redl_tree.specs.Model.Tree.{HasUtf8Tails, IsTree}
 use Rattle.redl_tree.specs.Model.Nodes.{Close, Empty, End}
 use Rattle.redl_markup.specs.declared.error.MarkupError.{MarkupError}
 use Rattle.redl_markup.specs.declared.error.MarkupError.TheVariants as markup
-use Rattle.redl_grammar.specs.declared.place.Place.TheVariants.{BeforeRoot, InElement, AfterRoot}
+use Rattle.redl_grammar.specs.declared.section.Section.TheVariants.{BeforeRoot, InElement, AfterRoot}
 use Rattle.redl_grammar.specs.Characters.{is_character, IsText}
 use Rattle.redl_grammar.specs.Names.{name_text}
 use Rattle.redl_grammar.specs.Stretches.{IsStretch, ends_stretch}

@@ -6,7 +6,7 @@ use Rattle.redl_tree.specs.declared.kinds.Kind.{Kind}
 use Rattle.redl_tree.specs.declared.kinds.Kind.TheVariants.{Plain}
 use Rattle.redl_tree.specs.Model.Nodes.{Close, Empty, End}
 use Rattle.redl_tree.proofs.Model.Laws.{⊕-no_nodes, ⊕_assoc}
-use Rattle.redl_grammar.specs.declared.place.Place.TheVariants.{InElement}
+use Rattle.redl_grammar.specs.declared.section.Section.TheVariants.{InElement}
 use Rattle.redl_reading.specs.Steps.{turns}
 use Rattle.redl_grammar.specs.Names.{Name, name_text, name_eq}
 use Rattle.redl_grammar.specs.Stretches.{ends_stretch}

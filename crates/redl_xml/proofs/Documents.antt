@@ -7,8 +7,8 @@ use Rattle.redl_tree.specs.Model.Nodes.{Tag, Nodes, no_nodes, bytes, element, �
 use Rattle.redl_tree.specs.Model.Text.{text}
 use Rattle.redl_tree.specs.Model.Count.{count}
 use Rattle.redl_tree.specs.Model.Nodes.{Close, Empty, End}
-use Rattle.redl_grammar.specs.declared.place.Place.{Place}
-use Rattle.redl_grammar.specs.declared.place.Place.TheVariants.{BeforeRoot, AfterRoot}
+use Rattle.redl_grammar.specs.declared.section.Section.{Section}
+use Rattle.redl_grammar.specs.declared.section.Section.TheVariants.{BeforeRoot, AfterRoot}
 use Rattle.redl_reading.specs.Lists.{is_filled}
 use Rattle.redl_grammar.specs.Characters.{IsText}
 use Rattle.redl_grammar.specs.Names.{name_text}
@@ -29,23 +29,23 @@ use Rattle.redl_xml.proofs.Parts.{document_is}
 
 -- ---- an optional stretch
 
-stretch_of : (place : Place) (bs : List ℕ) (o : Option (Piece × List ℕ)) → piece_at place bs ≡ o → stretch_in place bs ≡ stretch_or_none bs o
+stretch_of : (place : Section) (bs : List ℕ) (o : Option (Piece × List ℕ)) → piece_at place bs ≡ o → stretch_in place bs ≡ stretch_or_none bs o
 unfolding stretch_in
 stretch_of place bs o e = ap (stretch_or_none bs) e
 
-filled_or_none : (place : Place) (b : List ℕ) → IsStretch place b → IsStretchOrNone place (bytes_or_none b)
+filled_or_none : (place : Section) (b : List ℕ) → IsStretch place b → IsStretchOrNone place (bytes_or_none b)
 filled_or_none place [] h = tt
 filled_or_none place (b ∷ bs) h = h
 
 -- the bytes begin with what is read as an optional stretch
-record TakesStretch (place : Place) (bs : List ℕ) (x : List ℕ × List ℕ) : Type 0 where
+record TakesStretch (place : Section) (bs : List ℕ) (x : List ℕ × List ℕ) : Type 0 where
   whole : bs ≡ x.0 ++ x.1
   legal : IsStretchOrNone place (bytes_or_none x.0)
 
-takes_none : (place : Place) (bs : List ℕ) → TakesStretch place bs ([], bs)
+takes_none : (place : Section) (bs : List ℕ) → TakesStretch place bs ([], bs)
 takes_none place bs = record { whole = refl; legal = tt }
 
-stretch_takes : (place : Place) (bs : List ℕ) → TakesStretch place bs (stretch_in place bs)
+stretch_takes : (place : Section) (bs : List ℕ) → TakesStretch place bs (stretch_in place bs)
 stretch_takes place bs = of (piece_at place bs) refl where
   of_piece : (p : Piece) (rest : List ℕ) → piece_at place bs ≡ Some (p, rest) → TakesStretch place bs (stretch_or_none bs (Some (p, rest)))
   of_piece (stretch b) rest e = let t = piece_takes place bs (stretch b, rest) e in record { whole = t.whole; legal = filled_or_none place b t.legal }
@@ -57,19 +57,19 @@ stretch_takes place bs = of (piece_at place bs) refl where
   of None e = let P : List ℕ × List ℕ → Type 0 = TakesStretch place bs in subst P (sym (stretch_of place bs None e)) (takes_none place bs)
   of (Some x) e = let P : List ℕ × List ℕ → Type 0 = TakesStretch place bs in subst P (sym (stretch_of place bs (Some x) e)) (of_piece x.0 x.1 e)
 
-stretch_in_nothing : (place : Place) → stretch_in place [] ≡ ([], [])
+stretch_in_nothing : (place : Section) → stretch_in place [] ≡ ([], [])
 stretch_in_nothing place = of (piece_at place []) refl where
   of : (o : Option (Piece × List ℕ)) → piece_at place [] ≡ o → stretch_in place [] ≡ ([], [])
   of None e = stretch_of place [] None e
   of (Some x) e = let less = piece_shorter place [] x e in absurd (omega arith)
 
 -- the bytes of an optional stretch
-pub record HasBytes (place : Place) (x : Nodes) : Type 0 where
+pub record HasBytes (place : Section) (x : Nodes) : Type 0 where
   pub bytes_of : List ℕ
   pub is : x ≡ bytes_or_none bytes_of
   pub legal : (bytes_of ≡ []) ⊎ IsStretch place bytes_of
 
-pub has_bytes : (place : Place) (x : Nodes) → IsStretchOrNone place x → HasBytes place x
+pub has_bytes : (place : Section) (x : Nodes) → IsStretchOrNone place x → HasBytes place x
 has_bytes place no_nodes h = record { bytes_of = []; is = refl; legal = inl refl }
 has_bytes place (bytes b no_nodes) h = record { bytes_of = b; is = filled b h.filled; legal = inr h } where
   filled : (b : List ℕ) → (b ≢ []) → bytes b no_nodes ≡ bytes_or_none b
@@ -80,12 +80,12 @@ has_bytes place (bytes b (element tag kids rest)) h = absurd h
 has_bytes place (element tag kids rest) h = absurd h
 
 -- if the rest begins with no stretch, the bytes before it are read
-stretch_again : (place : Place) (b rest : List ℕ) → ((b ≡ []) ⊎ IsStretch place b) → ends_stretch rest ≡ true → stretch_in place rest ≡ ([], rest) → stretch_in place (b ++ rest) ≡ (b, rest)
+stretch_again : (place : Section) (b rest : List ℕ) → ((b ≡ []) ⊎ IsStretch place b) → ends_stretch rest ≡ true → stretch_in place rest ≡ ([], rest) → stretch_in place (b ++ rest) ≡ (b, rest)
 stretch_again place b rest (inl none) end e = ap (λ (x : List ℕ). stretch_in place (x ++ rest)) none ∙ e ∙ ap (λ (x : List ℕ). (x, rest)) (sym none)
 stretch_again place b rest (inr h) end e = stretch_of place (b ++ rest) (Some (stretch b, rest)) (piece_again place (stretch b) rest h end)
 
 -- an element begins with no stretch
-root_is_no_stretch : (place : Place) (tag : Tag) (kids : Nodes) (y : List ℕ) → AreLegal [] (element tag kids no_nodes) → stretch_in place (tree_then (element tag kids no_nodes) y) ≡ ([], tree_then (element tag kids no_nodes) y)
+root_is_no_stretch : (place : Section) (tag : Tag) (kids : Nodes) (y : List ℕ) → AreLegal [] (element tag kids no_nodes) → stretch_in place (tree_then (element tag kids no_nodes) y) ≡ ([], tree_then (element tag kids no_nodes) y)
 root_is_no_stretch place tag kids y h = of tag.close where
   of : (close : Close) → (let bs : List ℕ = 60 ∷ (name_text (name_of tag) ++ (tag.tail ++ close_then tag close (tree_then kids) y)) in stretch_in place bs ≡ ([], bs))
   of Empty = stretch_of place _ _ (piece_again place (empty_tag (name_of tag) tag.tail) y (h.0.name, h.0.tail) tt)

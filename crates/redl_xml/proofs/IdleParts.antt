@@ -18,7 +18,7 @@ use Rattle.redl_reading.specs.Steps.{or_same}
 use Rattle.redl_xml.specs.Shapes.{depth_of}
 use Rattle.redl_xml.specs.Scopes.{Scope}
 use Rattle.redl_markup.specs.declared.name.Name as code
-use Rattle.redl_grammar.specs.declared.place.Place.TheVariants.{InElement}
+use Rattle.redl_grammar.specs.declared.section.Section.TheVariants.{InElement}
 use Rattle.redl_grammar.specs.Pieces.{Piece}
 use Rattle.redl_grammar.specs.ScanPieces.{piece_at}
 use Rattle.redl_xml.specs.Inside.Passing.{HoldsIn, ArePlainIn, IsIdleIn, IsPassed, IsIdleText, PassesPiece, is_run_open, names_view}

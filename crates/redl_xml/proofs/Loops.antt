@@ -2,7 +2,7 @@
 use Rattle.std.proofs.Common.{◌≡◌, ℕ, List, ◌<◌, length, Option, Some, None, refl, sym, ap, ◌∙◌, arith}
 use Rattle.redl_markup.specs.declared.error.MarkupError.{MarkupError}
 use Rattle.redl_markup.specs.declared.error.MarkupError.TheVariants.{Unreadable, NoMemory}
-use Rattle.redl_grammar.specs.declared.place.Place.TheVariants.{InElement}
+use Rattle.redl_grammar.specs.declared.section.Section.TheVariants.{InElement}
 use Rattle.redl_markup.specs.Reading.{Fails}
 use Rattle.redl_reading.specs.Steps.{done, next}
 use Rattle.redl_grammar.specs.Pieces.{Piece}

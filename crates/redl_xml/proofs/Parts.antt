@@ -4,7 +4,7 @@ use Rattle.std.proofs.lemmas.Option.{same_Some}
 use Rattle.redl_reading.proofs.Options.{map_some, map_none}
 use Rattle.redl_tree.specs.Model.Nodes.{Nodes, no_nodes, bytes, ◌⊕◌}
 use Rattle.redl_tree.proofs.Model.Laws.{⊕-no_nodes}
-use Rattle.redl_grammar.specs.declared.place.Place.TheVariants.{BeforeRoot, AfterRoot}
+use Rattle.redl_grammar.specs.declared.section.Section.TheVariants.{BeforeRoot, AfterRoot}
 use Rattle.redl_markup.specs.declared.error.MarkupError.{MarkupError}
 use Rattle.redl_markup.specs.declared.error.MarkupError.TheVariants.{Unreadable, NoMemory}
 use Rattle.redl_reading.specs.Lists.{is_filled}

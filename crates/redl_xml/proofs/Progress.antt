@@ -6,7 +6,7 @@ use Rattle.redl_tree.specs.Model.Nodes.{Nodes}
 use Rattle.redl_tree.specs.Model.Count.{count}
 use Rattle.redl_markup.specs.declared.error.MarkupError.{MarkupError}
 use Rattle.redl_markup.specs.declared.error.MarkupError.TheVariants.{Unreadable, NoMemory}
-use Rattle.redl_grammar.specs.declared.place.Place.TheVariants.{InElement}
+use Rattle.redl_grammar.specs.declared.section.Section.TheVariants.{InElement}
 use Rattle.redl_markup.specs.Reading.{Fails}
 use Rattle.redl_grammar.specs.Pieces.{Piece}
 use Rattle.redl_grammar.specs.ScanPieces.{piece_at}

@@ -5,7 +5,7 @@ use Rattle.std.proofs.lemmas.Option.{same_Some, cond_some, some_pair_parts, none
 use Rattle.redl_tree.specs.Model.Nodes.{Tag, Nodes, no_nodes, bytes, element, ◌⊕◌}
 use Rattle.redl_tree.specs.declared.kinds.Space.{Space}
 use Rattle.redl_tree.specs.Model.Nodes.{Close, Empty, End}
-use Rattle.redl_grammar.specs.declared.place.Place.TheVariants.{InElement}
+use Rattle.redl_grammar.specs.declared.section.Section.TheVariants.{InElement}
 use Rattle.redl_reading.specs.Lists.{is_other}
 use Rattle.redl_reading.specs.Steps.{turn, turns}
 use Rattle.redl_grammar.specs.Names.{Name, name_text, name_eq, IsName}

@@ -4,7 +4,7 @@ ghost use Rattle.std.specs.Prelude.{◌≡◌, ◌≤◌, OnOk, IfOk, IfSome, Is
 ghost use Rattle.redl_tree.specs.Model.Nodes.{no_nodes, in_front, ◌⊕◌};
 ghost use Rattle.redl_tree.specs.Model.View.{item_of, nodes_of};
 ghost use Rattle.redl_markup.specs.Views.{name_view};
-ghost use Rattle.redl_grammar.specs.declared.place.Place.TheVariants.{InElement};
+ghost use Rattle.redl_grammar.specs.declared.section.Section.TheVariants.{InElement};
 ghost use Rattle.redl_grammar.specs.ScanPieces.{piece_at};
 ghost use Rattle.redl_markup.specs.PieceViews.{piece_view};
 ghost use Rattle.redl_grammar.specs.Pieces.{start_tag, empty_tag, end_tag, stretch};
@@ -12,7 +12,7 @@ ghost use Rattle.redl_xml.specs.Inside.Elements.{placed, nothing_yet, without_no
 ghost use Rattle.redl_xml.specs.Inside.Buildings.{frame_view, building_view};
 ghost use Rattle.redl_xml.specs.Inside.Passing.{AddsText, rest_behind};
 
-use crate::idle::{Passed, Tried, Tries, skip_plain};
+use crate::idle::{Passed, Tried, TryState, skip_plain};
 use crate::namespaces::enter;
 use crate::open_element::OpenElement;
 use crate::sizes::{Limits, Sizes};
@@ -173,7 +173,7 @@ impl<'a> Building<'a> {
     pub(crate) fn pass_over(
         &mut self,
         alloc: Global,
-        tries: &mut Tries<'a>,
+        tries: &mut TryState<'a>,
         bytes: &'a [u8],
     ) -> Result<Tried<'a>, AllocError>
         ensures passed { IfOk result (λ tried. IfSome tried.idle (λ idle. AddsText (building_view self.old) (building_view self.new) bytes.entry.now idle.rest.now idle.nodes idle.deepest)) }
@@ -199,7 +199,7 @@ impl<'a> Building<'a> {
 
     /// Drops the nodes so far if the sizes are past a limit.
     #[inline(always)]
-    pub(crate) fn keep_within(&mut self, limits: Limits, sizes: Sizes)
+    pub(crate) fn drop_past_limits(&mut self, limits: Limits, sizes: Sizes)
         ensures kept { sizes.deepest ≤ limits.depth → sizes.nodes ≤ limits.nodes → building_view self.new ≡ building_view self.old }
         ensures rest { without_nodes (building_view self.new) ≡ without_nodes (building_view self.old) }
     {

@@ -14,7 +14,7 @@ ghost use Rattle.redl_xml.specs.Readings.{IsReading, HasReading, HasNoReading};
 use crate::element::read_element;
 use crate::error::XmlError;
 use crate::sizes::{Limits, Sizes};
-use redl_grammar::Place;
+use redl_grammar::Section;
 use redl_markup::{MarkupError, Piece, is_text, next_piece};
 use redl_tree::Node;
 use std::alloc::{AllocError, Global};
@@ -35,7 +35,7 @@ struct Document<'a> {
 // The leading stretch of this place, which may be empty, and the bytes after it.
 #[tactic(auto, unfolding(crate::specs::Inside::Documents::stretch_in))]
 #[inline(never)]
-fn stretch(alloc: Global, bytes: &[u8], place: Place) -> Result<(&[u8], &[u8]), MarkupError>
+fn stretch(alloc: Global, bytes: &[u8], place: Section) -> Result<(&[u8], &[u8]), MarkupError>
     ensures { Finds (λ x. (x.0.now, x.1.now)) result (Some (stretch_in place bytes.now)) }
 {
     match next_piece(alloc, &mut Vec::new(alloc), bytes, place) {
@@ -88,9 +88,9 @@ fn read_document(alloc: Global, limits: Limits, bytes: &[u8]) -> Result<Document
     ensures sizes { Finds (λ d. (d.sizes.deepest, d.sizes.nodes)) result (sizes_at limits.nodes bytes.now) }
     ensures nodes { IfOk result (λ d. d.sizes.deepest ≤ limits.depth → d.sizes.nodes ≤ limits.nodes → document_at bytes.now ≡ Some (nodes_of d.nodes.items)) }
 {
-    let (before, root) = stretch(alloc, bytes, Place::BeforeRoot)?;
+    let (before, root) = stretch(alloc, bytes, Section::BeforeRoot)?;
     let element = read_element(alloc, limits, root)?;
-    let (after, rest) = stretch(alloc, element.rest, Place::AfterRoot)?;
+    let (after, rest) = stretch(alloc, element.rest, Section::AfterRoot)?;
     if !rest.is_empty() {
         return Err(MarkupError::Unreadable);
     }

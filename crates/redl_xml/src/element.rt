@@ -3,7 +3,7 @@
 ghost use Rattle.std.specs.Prelude.{◌≡◌, ◌≤◌, IfOk, IfSome, Some};
 ghost use Rattle.redl_tree.specs.Model.View.{nodes_of};
 ghost use Rattle.redl_markup.specs.Reading.{Finds};
-ghost use Rattle.redl_grammar.specs.declared.place.Place.TheVariants.{InElement};
+ghost use Rattle.redl_grammar.specs.declared.section.Section.TheVariants.{InElement};
 ghost use Rattle.redl_grammar.specs.ScanPieces.{piece_at};
 ghost use Rattle.redl_markup.specs.PieceViews.{piece_view};
 ghost use Rattle.redl_xml.specs.Inside.Buildings.{building_view};
@@ -12,9 +12,9 @@ ghost use Rattle.redl_xml.specs.Inside.Elements.{element_at};
 ghost use Rattle.redl_xml.specs.Inside.Sizes.{element_sizes};
 
 use crate::building::Building;
-use crate::idle::Tries;
+use crate::idle::TryState;
 use crate::sizes::{Limits, Sizes};
-use redl_grammar::Place;
+use redl_grammar::Section;
 use redl_markup::{MarkupError, Name, Piece, next_piece};
 use redl_tree::Node;
 use std::alloc::{AllocError, Global};
@@ -43,7 +43,7 @@ fn pass_over<'a>(
     limits: Limits,
     building: &mut Building<'a>,
     sizes: &mut Sizes,
-    tries: &mut Tries<'a>,
+    tries: &mut TryState<'a>,
     bytes: &'a [u8],
 ) -> Result<Ahead<'a>, AllocError>
     ensures ahead { IfOk result (λ ahead. GoesAhead limits (building_view building.old) (building_view building.new) sizes.old sizes.new bytes.entry.now ahead.rest.now) }
@@ -57,7 +57,7 @@ fn pass_over<'a>(
         });
     };
     sizes.add_nodes(limits.nodes, idle.nodes, building.open.len(), idle.deepest);
-    building.keep_within(limits, *sizes);
+    building.drop_past_limits(limits, *sizes);
     Ok(Ahead {
         rest: idle.rest,
         next: tried.next,
@@ -76,7 +76,7 @@ fn piece_ahead<'a>(
 {
     match ahead.next {
         Some(found) => Ok(found),
-        None => next_piece(alloc, list, ahead.rest, Place::InElement),
+        None => next_piece(alloc, list, ahead.rest, Section::InElement),
     }
 }
 
@@ -98,13 +98,13 @@ pub(crate) fn read_element(
         nodes: 0,
     };
     let mut rest = bytes;
-    let mut tries = Tries::new(alloc, bytes);
+    let mut tries = TryState::new(alloc, bytes);
     loop {
         let ahead = pass_over(alloc, limits, &mut building, &mut sizes, &mut tries, rest)?;
         let (piece, next) = piece_ahead(alloc, &mut tries.list, ahead)?;
         sizes.add_piece(limits.nodes, &piece, building.open.len() + 1);
         building.place(alloc, &mut tries.list, piece)?;
-        building.keep_within(limits, sizes);
+        building.drop_past_limits(limits, sizes);
         rest = next;
         if building.open.is_empty() {
             return Ok(Element {

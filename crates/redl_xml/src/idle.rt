@@ -1,7 +1,7 @@
 //! Elements that are passed over as they stand.
 
 ghost use Rattle.std.specs.Prelude.{◌≡◌, ◌==◌, length, true, false, option_map, IfOk, IfSome, IsNone, Some, if◌then◌else◌};
-ghost use Rattle.redl_grammar.specs.declared.place.Place.TheVariants.{InElement};
+ghost use Rattle.redl_grammar.specs.declared.section.Section.TheVariants.{InElement};
 ghost use Rattle.redl_grammar.specs.ScanPieces.{piece_at};
 ghost use Rattle.redl_tree.specs.declared.kinds.Space.TheVariants.{W};
 ghost use Rattle.redl_tree.specs.Model.Folds.{nodes_in};
@@ -13,7 +13,7 @@ ghost use Rattle.redl_xml.specs.Inside.Passing.{HoldsOf, HoldsIn, IsPlainIn, IsI
 use crate::closing::behind_end;
 use crate::namespaces::{are_plain, element_space};
 use crate::spaces::Spaces;
-use redl_grammar::Place;
+use redl_grammar::Section;
 use redl_markup::{MarkupError, Name, Piece, StartTag, next_piece};
 use redl_tree::{Plain, Space, is_idle_name};
 use std::alloc::{AllocError, Global};
@@ -51,7 +51,7 @@ pub(crate) struct Passed<'a> {
 
 /// What tries share: how many bytes were left where the last one ended, and two lists to use again.
 #[derive(Drop)]
-pub(crate) struct Tries<'a> {
+pub(crate) struct TryState<'a> {
     /// How many bytes were left where the last one ended.
     pub(crate) left: usize,
     /// The names of the open elements.
@@ -60,10 +60,10 @@ pub(crate) struct Tries<'a> {
     pub(crate) list: Vec<Name<'a>>,
 }
 
-impl<'a> Tries<'a> {
+impl<'a> TryState<'a> {
     /// Where none was before these bytes.
-    pub(crate) fn new(alloc: Global, bytes: &'a [u8]) -> Tries<'a> {
-        Tries {
+    pub(crate) fn new(alloc: Global, bytes: &'a [u8]) -> TryState<'a> {
+        TryState {
             left: bytes.len(),
             names: Vec::new(alloc),
             list: Vec::new(alloc),
@@ -204,7 +204,7 @@ fn some_piece<'a>(
 ) -> Result<Option<(Piece<'a>, &'a [u8])>, AllocError>
     ensures { IfOk result (λ o. IfSome o (λ x. piece_at InElement bytes.entry.now ≡ Some (piece_view x.0, x.1.now))) }
 {
-    match next_piece(alloc, list, bytes, Place::InElement) {
+    match next_piece(alloc, list, bytes, Section::InElement) {
         Ok(found) => Ok(Some(found)),
         Err(MarkupError::NoMemory) => Err(AllocError),
         Err(MarkupError::Unreadable) => Ok(None),
@@ -262,7 +262,7 @@ fn ended<'a>(
 pub(crate) fn skip_idle<'a>(
     alloc: Global,
     scopes: &mut Spaces<'a>,
-    tries: &mut Tries<'a>,
+    tries: &mut TryState<'a>,
     bytes: &'a [u8],
 ) -> Result<Tried<'a>, AllocError>
     ensures passed { IfOk result (λ tried. IfSome tried.idle (λ idle. IsPassed (IsIdleIn scopes.old) W bytes.entry.now idle.rest.now idle.nodes idle.elems idle.deepest)) }
@@ -309,7 +309,7 @@ pub(crate) fn skip_idle<'a>(
 pub(crate) fn skip_plain<'a>(
     alloc: Global,
     scopes: &mut Spaces<'a>,
-    tries: &mut Tries<'a>,
+    tries: &mut TryState<'a>,
     bytes: &'a [u8],
 ) -> Result<Passed<'a>, AllocError>
     ensures text { IfOk result (λ passed. IfSome passed.text (λ x. IsIdleText scopes.old bytes.entry.now x.0 x.1.rest.now x.1.nodes x.1.deepest)) }

@@ -10,7 +10,7 @@ mod help;
 
 use help::{HELP, PARTS, VERSION};
 use redl_app::{Texts, WordsError, answer, own_of};
-use redl_hints::{Fetched, Told, tell_hints, tell_word_hint};
+use redl_hints::{Fetched, FirstBytes, tell_hints, tell_word_hint};
 use redl_io::{FileShelf, Shelf, Sink, StdSink, Text};
 use redl_skin::page_skin;
 use redl_words::given_words;
@@ -26,8 +26,8 @@ const TEXTS: Texts<'static> = Texts {
 
 fn main(rt: HostRuntime) -> ExitCode {
     let mut shelf = Fetched::new(rt.alloc(), FileShelf::new(&rt));
-    let mut out = Told::new(rt.alloc(), StdSink::new(rt.stdout()));
-    let mut err = Told::new(rt.alloc(), StdSink::new(rt.stderr()));
+    let mut out = FirstBytes::new(rt.alloc(), StdSink::new(rt.stdout()));
+    let mut err = FirstBytes::new(rt.alloc(), StdSink::new(rt.stderr()));
     let words = given_words(&rt);
     if let Ok(words) = &words {
         shelf.prepare(words);
@@ -50,8 +50,8 @@ fn tell_hint<F: Shelf, O: Sink, E: Sink>(
     alloc: Global,
     words: &Result<Vec<Text>, WordsError>,
     shelf: &Fetched<F>,
-    out: &Told<O>,
-    err: &mut Told<E>,
+    out: &FirstBytes<O>,
+    err: &mut FirstBytes<E>,
 ) {
     match words {
         // What was read last is remembered. Opened once more, a pipe would wait for a writer that is gone.

@@ -5,17 +5,17 @@ use Rattle.redl_tree.specs.Model.IdleTexts.{idle_nodes}
 use Rattle.redl_tree.specs.Roles.Names.{is}
 use Rattle.redl_bare.specs.Marks.{Stamp, Marks, stamp_in, is_run_change, change_in, marks_inside}
 use Rattle.redl_bare.specs.Units.{BareUnit, in_marks, byte_texts, start_units, end_units, place_inside, units_in}
-use Rattle.redl_bare.specs.declared.place.Place.{Place}
+use Rattle.redl_bare.specs.declared.place.BarePlace.{BarePlace}
 
 -- the units of what an element holds
-abbrev pub held_units : Place → Marks → Tag → Nodes → List BareUnit
+abbrev pub held_units : BarePlace → Marks → Tag → Nodes → List BareUnit
 held_units place marks tag kids = units_in (place_inside place tag) (marks_inside marks tag kids) kids
 
 -- the units of an element
-abbrev pub element_units : Place → Marks → Tag → Nodes → List BareUnit
+abbrev pub element_units : BarePlace → Marks → Tag → Nodes → List BareUnit
 element_units place marks tag kids = start_units place marks tag ++ (held_units place marks tag kids ++ end_units place marks tag)
 
-abbrev pub item_units : Place → Marks → Item → List BareUnit
+abbrev pub item_units : BarePlace → Marks → Item → List BareUnit
 item_units place marks (bytes_item b) = in_marks marks (byte_texts place b)
 item_units place marks (element_item tag kids) = element_units place marks tag kids
 item_units place marks (idle_item t) = units_in place marks (idle_nodes t)

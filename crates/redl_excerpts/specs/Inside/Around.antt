@@ -10,7 +10,7 @@ use Rattle.redl_excerpts.specs.Mentions.{Mention, Where, stretch_in, told_by}
 use Rattle.redl_excerpts.specs.declared.around.Away.{Away}
 use Rattle.redl_excerpts.specs.Lines.{along}
 use Rattle.redl_excerpts.specs.Said.{holds_text, start_said}
-use Rattle.redl_excerpts.specs.declared.line.Place.{Place}
+use Rattle.redl_excerpts.specs.declared.line.LinePlace.{LinePlace}
 use Rattle.redl_excerpts.specs.declared.excerpt.Excerpt.{Excerpt}
 use Rattle.redl_excerpts.specs.Phrases.{heard}
 
@@ -48,7 +48,7 @@ closed excerpt away behind = record {
 
 -- An element at this place is a member of one of so many revisions that tells of what it holds, and an element of run content: no
 -- paragraph, no properties and no text, and it says nothing at its start tag.
-pub record IsAround (revisions : List Revision) (tag : Tag) (kids : Nodes) (place : Place) (count : ℕ) : Type 0 where
+pub record IsAround (revisions : List Revision) (tag : Tag) (kids : Nodes) (place : LinePlace) (count : ℕ) : Type 0 where
   pub numbered : 0 < tag.rev
   pub within : tag.rev ≤ count
   pub tells : (here : Where) → told_by (is_moved revisions tag.rev) here tag.kind tag kids ≡ stretch_in here.whole tag here.place kids ∷ []

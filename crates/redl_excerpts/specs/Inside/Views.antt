@@ -1,10 +1,10 @@
 -- What code keeps of where nodes stand, as the definitions see it.
 use Rattle.redl_tree.specs.Model.View.{nodes_of}
 use Rattle.redl_excerpts.specs.Mentions.{Where}
-use Rattle.redl_excerpts.specs.declared.line.Place.{Place}
+use Rattle.redl_excerpts.specs.declared.line.LinePlace.{LinePlace}
 use Rattle.redl_excerpts.specs.declared.members.Here.{Here}
 
-abbrev pub where_of : Here → Place → Where
+abbrev pub where_of : Here → LinePlace → Where
 where_of here place = record {
   in_text = here.in_text;
   siblings = nodes_of here.siblings.now;

@@ -2,7 +2,7 @@
 use Rattle.std.specs.Prelude.{◌≡◌, ℕ, zero, suc, ◌+◌, ◌-◌, List, ◌++◌, Option, Some, None}
 use Rattle.redl_tree.specs.Model.Nodes.{Nodes, no_nodes, bytes, element, Empty, End}
 use Rattle.redl_tree.specs.declared.kinds.Space.{Space}
-use Rattle.redl_grammar.specs.declared.place.Place.TheVariants.{InElement}
+use Rattle.redl_grammar.specs.declared.section.Section.TheVariants.{InElement}
 use Rattle.redl_grammar.specs.Names.{Name}
 use Rattle.redl_grammar.specs.Pieces.{Piece, start_tag, empty_tag, end_tag, stretch, piece_then, IsPiece}
 use Rattle.redl_tree.specs.Model.Folds.{plain_tag, nodes_in, Reads}

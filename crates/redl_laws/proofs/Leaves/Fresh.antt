@@ -6,7 +6,7 @@ use Rattle.redl_tree.specs.Revisions.Markers.{is_own}
 use Rattle.redl_tree.specs.Decisions.Fates.{say_of}
 use Rattle.redl_tree.specs.Leaves.Slots.{Slots, no_slots, leaf_slot, container_slot, slots_in}
 use Rattle.redl_tree.specs.Leaves.Rebuilt.{original}
-use Rattle.redl_tree.specs.Leaves.Living.{is_between, owned}
+use Rattle.redl_tree.specs.Leaves.Living.{holds_own_of_ancestor, owned}
 use Rattle.redl_tree.specs.Leaves.Settings.{has_member, leaf_holds, IsUnheld}
 use Rattle.redl_tree.specs.Leaves.States.{States, slots_of, states_owned, states_living, AreTallied, ArePassed, AreCurrent, fresh_states}
 use Rattle.redl_tree.specs.Leaves.Shown.{AreStatesOf}
@@ -33,13 +33,13 @@ fresh-owned : (ancestors : List Tag) (slots : Slots) → states_owned ancestors 
 fresh-owned ancestors no_slots = refl
 fresh-owned ancestors (leaf_slot leaf rest) = fresh-owned ancestors rest
 fresh-owned ancestors (container_slot tag kids inner rest) =
-    ap (λ n. (if is_own ancestors tag then 1 else if is_between ancestors tag then owned (tag ∷ ancestors) inner else 0) + n) (fresh-owned ancestors rest)
+    ap (λ n. (if is_own ancestors tag then 1 else if holds_own_of_ancestor ancestors tag then owned (tag ∷ ancestors) inner else 0) + n) (fresh-owned ancestors rest)
 
 fresh-living : (ancestors : List Tag) (slots : Slots) → states_living ancestors (fresh_states ancestors slots) ≡ owned ancestors slots
 fresh-living ancestors no_slots = refl
 fresh-living ancestors (leaf_slot leaf rest) = fresh-living ancestors rest
 fresh-living ancestors (container_slot tag kids inner rest) =
-    ap (λ n. (if is_own ancestors tag then 1 else if is_between ancestors tag then owned (tag ∷ ancestors) inner else 0) + n) (fresh-living ancestors rest)
+    ap (λ n. (if is_own ancestors tag then 1 else if holds_own_of_ancestor ancestors tag then owned (tag ∷ ancestors) inner else 0) + n) (fresh-living ancestors rest)
 
 fresh-tallied : (ancestors : List Tag) (slots : Slots) → AreTallied ancestors (fresh_states ancestors slots)
 fresh-tallied ancestors no_slots = tt

@@ -13,7 +13,7 @@ use Rattle.redl_tree.specs.Revisions.Markers.{is_own, is_reached}
 use Rattle.redl_tree.specs.Decisions.Tables.{own, all_of_some, cell_is_cut, row_is_cut, row_goes, rows_go, cells_go, goes_at}
 use Rattle.redl_tree.specs.Leaves.Containers.{is_control, opens, opens_outer, is_control_content}
 use Rattle.redl_tree.specs.Leaves.Slots.{has_mark, Slots, Sibling, para_sibling, thin_sibling, thick_sibling, open_sibling, slots_from, sibling, siblings, slots_in}
-use Rattle.redl_tree.specs.Leaves.Living.{own_sum, is_between, owned, living, all_gone, cut_at, goes_by_counts}
+use Rattle.redl_tree.specs.Leaves.Living.{own_sum, holds_own_of_ancestor, owned, living, all_gone, cut_at, goes_by_counts}
 use Rattle.redl_tree.specs.declared.lists.Place.{Place}
 use Rattle.redl_tree.specs.declared.lists.Reach.{Reach}
 use Rattle.redl_tree.specs.declared.lists.Reach.TheVariants.{Direct, Control, Beyond}
@@ -188,7 +188,7 @@ wrapper-reached tag h = at (is "sdt" tag) (is "customXml" tag) h
 -- what a container adds to the sum
 abbrev share : (List Tag → Tag → Nodes → ℕ) → List Tag → Tag → Nodes → Slots → ℕ
 share w ancestors tag kids inner =
-    if is_own ancestors tag then w ancestors tag kids else if is_between ancestors tag then own_sum w (tag ∷ ancestors) inner else 0
+    if is_own ancestors tag then w ancestors tag kids else if holds_own_of_ancestor ancestors tag then own_sum w (tag ∷ ancestors) inner else 0
 
 -- one element before others, outside lists of blocks
 sum-front : (w : List Tag → Tag → Nodes → ℕ) (ancestors : List Tag) (tag : Tag) (kids : Nodes) (inner : Slots) (later : List Sibling) → in_blocks ancestors ≡ false →
@@ -211,17 +211,17 @@ sum-front w ancestors tag kids inner later e = at (opens ancestors tag) (is "p" 
 grid-direct : (name : String) (w : List Tag → Tag → Nodes → ℕ) (v : Nodes → ℕ) (ancestors : List Tag) (tag : Tag) (kids : Nodes)
     (inner : Slots) (after : ℕ) (others : List Nodes) (n m : Bool) → is_own ancestors tag ≡ n → is_wrapper tag ≡ m →
     (n ≡ true → w ancestors tag kids ≡ v kids) →
-    (m ≡ true → is_between ancestors tag ≡ true) →
+    (m ≡ true → holds_own_of_ancestor ancestors tag ≡ true) →
     (m ≡ true → own_sum w (tag ∷ ancestors) inner ≡ total v (own name (into Direct tag) kids)) →
     after ≡ total v others →
     (if n || m then share w ancestors tag kids inner + after else after)
     ≡ total v ((if n then kids ∷ [] else own name (into Direct tag) kids) ++ others)
 grid-direct name w v ancestors tag kids inner after others true m o k weigh between below e =
-    ap (λ b. (if b then w ancestors tag kids else if is_between ancestors tag then own_sum w (tag ∷ ancestors) inner else 0) + after) o
+    ap (λ b. (if b then w ancestors tag kids else if holds_own_of_ancestor ancestors tag then own_sum w (tag ∷ ancestors) inner else 0) + after) o
     ∙ ap (λ a. a + after) (weigh refl)
     ∙ ap (λ a. v kids + a) e
 grid-direct name w v ancestors tag kids inner after others false true o k weigh between below e =
-    ap (λ b. (if b then w ancestors tag kids else if is_between ancestors tag then own_sum w (tag ∷ ancestors) inner else 0) + after) o
+    ap (λ b. (if b then w ancestors tag kids else if holds_own_of_ancestor ancestors tag then own_sum w (tag ∷ ancestors) inner else 0) + after) o
     ∙ ap (λ b. (if b then own_sum w (tag ∷ ancestors) inner else 0) + after) (between refl)
     ∙ ap (λ a. a + after) (below refl)
     ∙ ap (λ a. total v (own name (into Direct tag) kids) + a) e
@@ -232,13 +232,13 @@ grid-direct name w v ancestors tag kids inner after others false false o k weigh
 -- one element of a content control
 grid-control : (name : String) (w : List Tag → Tag → Nodes → ℕ) (v : Nodes → ℕ) (ancestors : List Tag) (tag : Tag) (kids : Nodes)
     (inner : Slots) (after : ℕ) (others : List Nodes) (s : Bool) → is_own ancestors tag ≡ false →
-    (s ≡ true → is_between ancestors tag ≡ true) →
+    (s ≡ true → holds_own_of_ancestor ancestors tag ≡ true) →
     (s ≡ true → own_sum w (tag ∷ ancestors) inner ≡ total v (own name Direct kids)) →
     after ≡ total v others →
     (if s then share w ancestors tag kids inner + after else after)
     ≡ total v (own name (if s then Direct else Beyond) kids ++ others)
 grid-control name w v ancestors tag kids inner after others true o between below e =
-    ap (λ b. (if b then w ancestors tag kids else if is_between ancestors tag then own_sum w (tag ∷ ancestors) inner else 0) + after) o
+    ap (λ b. (if b then w ancestors tag kids else if holds_own_of_ancestor ancestors tag then own_sum w (tag ∷ ancestors) inner else 0) + after) o
     ∙ ap (λ b. (if b then own_sum w (tag ∷ ancestors) inner else 0) + after) (between refl)
     ∙ ap (λ a. a + after) (below refl)
     ∙ ap (λ a. total v (own name Direct kids) + a) e

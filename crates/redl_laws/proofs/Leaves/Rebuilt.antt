@@ -12,7 +12,7 @@ use Rattle.redl_tree.specs.Roles.Kinds.{is_content, is_mark, is_cut, is_leave}
 use Rattle.redl_tree.specs.Decisions.Fates.{fate, fate_of, say_of, renamed}
 use Rattle.redl_tree.specs.Decisions.Restored.{after_change}
 use Rattle.redl_tree.specs.Decisions.Tables.{goes_at, para_is_cut}
-use Rattle.redl_tree.specs.Decisions.Groups.{Piece, para, thin, thick, paragraph_next, has_thick, grouped}
+use Rattle.redl_tree.specs.Decisions.Groups.{GroupPiece, para, thin, thick, paragraph_next, has_thick, grouped}
 use Rattle.redl_tree.specs.Decisions.Pass.{by_fate, kept_kids, element_pass, is_block_para, piece, pieces, pass}
 use Rattle.redl_tree.specs.Leaves.Slots.{has_mark, Sibling, para_sibling, thin_sibling, thick_sibling, open_sibling, Slots, leaf_slot, chain_next, thick_next, chained, chain_after, leaf_of, slot_of, slots_from, sibling, siblings, slots_in}
 use Rattle.redl_tree.specs.Leaves.Present.{pass_leaf, stand_ins}
@@ -72,7 +72,7 @@ pub mark-cut : (says : List Say) (kids : Nodes) → has_mark kids ≡ false → 
 mark-cut says kids h = some-less (λ tag. is_mark tag.kind) (λ tag. is_cut (fate_of says tag)) (kids_of_all "rPr" (kids_of_all "pPr" kids)) h
 
 -- what a node among blocks is to its siblings, and the piece that it gives
-data Match (says : List Say) (ancestors : List Tag) : Sibling → Piece → Type 0 where
+data Match (says : List Say) (ancestors : List Tag) : Sibling → GroupPiece → Type 0 where
   match_para : (marked : Bool) (nodes : Nodes) (tag : Tag) (cut : Bool) (kids : Nodes) →
       pieces says (stand_ins true) nodes ≡ para tag cut kids ∷ [] → (marked ≡ false → cut ≡ false) → Match says ancestors (para_sibling marked nodes) (para tag cut kids)
   match_thin : (nodes n : Nodes) → pieces says (stand_ins true) nodes ≡ thin n ∷ [] → Match says ancestors (thin_sibling nodes) (thin n)
@@ -81,19 +81,19 @@ data Match (says : List Say) (ancestors : List Tag) : Sibling → Piece → Type
       (if goes_at says ancestors tag kids then no_nodes else element tag (rebuilt says (tag ∷ ancestors) inner) no_nodes) ≡ n →
       Match says ancestors (open_sibling tag kids inner) (thick n)
 
-data Matches (says : List Say) (ancestors : List Tag) : List Sibling → List Piece → Type 0 where
+data Matches (says : List Say) (ancestors : List Tag) : List Sibling → List GroupPiece → Type 0 where
   none_left : Matches says ancestors [] []
-  one_more : {sibling : Sibling} {piece : Piece} {later : List Sibling} {ps : List Piece} → Match says ancestors sibling piece → Matches says ancestors later ps →
+  one_more : {sibling : Sibling} {piece : GroupPiece} {later : List Sibling} {ps : List GroupPiece} → Match says ancestors sibling piece → Matches says ancestors later ps →
       Matches says ancestors (sibling ∷ later) (piece ∷ ps)
 
-match-next : (says : List Say) (ancestors : List Tag) (later : List Sibling) (ps : List Piece) → Matches says ancestors later ps → chain_next later ≡ paragraph_next ps
+match-next : (says : List Say) (ancestors : List Tag) (later : List Sibling) (ps : List GroupPiece) → Matches says ancestors later ps → chain_next later ≡ paragraph_next ps
 match-next says ancestors later ps none_left = refl
 match-next says ancestors later ps (one_more (match_para marked nodes tag cut kids e l) m) = refl
 match-next says ancestors later ps (one_more {later = s} {ps = q} (match_thin nodes n e) m) = match-next says ancestors s q m
 match-next says ancestors later ps (one_more (match_thick nodes n e) m) = refl
 match-next says ancestors later ps (one_more (match_open tag kids inner n e) m) = refl
 
-match-thick : (says : List Say) (ancestors : List Tag) (later : List Sibling) (ps : List Piece) → Matches says ancestors later ps → thick_next later ≡ has_thick ps
+match-thick : (says : List Say) (ancestors : List Tag) (later : List Sibling) (ps : List GroupPiece) → Matches says ancestors later ps → thick_next later ≡ has_thick ps
 match-thick says ancestors later ps none_left = refl
 match-thick says ancestors later ps (one_more (match_para marked nodes tag cut kids e l) m) = refl
 match-thick says ancestors later ps (one_more {later = s} {ps = q} (match_thin nodes n e) m) = match-thick says ancestors s q m
@@ -101,22 +101,22 @@ match-thick says ancestors later ps (one_more (match_thick nodes n e) m) = refl
 match-thick says ancestors later ps (one_more (match_open tag kids inner n e) m) = refl
 
 -- the pieces of a chain that goes on
-abbrev chain_pieces : List Say → Option Nodes → List Piece
+abbrev chain_pieces : List Say → Option Nodes → List GroupPiece
 chain_pieces says None = []
 chain_pieces says (Some chain) = pieces says (stand_ins true) chain
 
-chained-pieces : (says : List Say) (chain : Option Nodes) (nodes : Nodes) (p : Piece) → pieces says (stand_ins true) nodes ≡ p ∷ [] →
+chained-pieces : (says : List Say) (chain : Option Nodes) (nodes : Nodes) (p : GroupPiece) → pieces says (stand_ins true) nodes ≡ p ∷ [] →
     pieces says (stand_ins true) (chained chain nodes) ≡ chain_pieces says chain ++ p ∷ []
 chained-pieces says None nodes p e = e
 chained-pieces says (Some chain) nodes p e =
     pieces-⊕ says (stand_ins true) chain nodes ∙ ap (λ ps. pieces says (stand_ins true) chain ++ ps) e
 
-ends-last : (ps : List Piece) (tag : Tag) (cut : Bool) (kids : Nodes) → ends_cut (ps ++ para tag cut kids ∷ []) ≡ cut
+ends-last : (ps : List GroupPiece) (tag : Tag) (cut : Bool) (kids : Nodes) → ends_cut (ps ++ para tag cut kids ∷ []) ≡ cut
 ends-last [] tag cut kids = refl
 ends-last (para t c k ∷ ps) tag cut kids =
     ap (λ b. if b then ends_cut (ps ++ para tag cut kids ∷ []) else c) (has_last ps) ∙ ends-last ps tag cut kids
   where
-    has_last : (ps : List Piece) → has_thick (ps ++ para tag cut kids ∷ []) ≡ true
+    has_last : (ps : List GroupPiece) → has_thick (ps ++ para tag cut kids ∷ []) ≡ true
     has_last [] = refl
     has_last (para t c k ∷ ps) = refl
     has_last (thin n ∷ ps) = has_last ps
@@ -136,7 +136,7 @@ no_join true false false other e l n = refl
 no_join false cut next other e l n = ap (λ b. b && other) (l refl)
 
 -- a chain that ends, before the rest
-chain-ends : (says : List Say) (chain : Option Nodes) (nodes : Nodes) (tag : Tag) (marked cut : Bool) (kids : Nodes) (followed : Bool) (ps : List Piece) (rest : Nodes) →
+chain-ends : (says : List Say) (chain : Option Nodes) (nodes : Nodes) (tag : Tag) (marked cut : Bool) (kids : Nodes) (followed : Bool) (ps : List GroupPiece) (rest : Nodes) →
     pieces says (stand_ins true) nodes ≡ para tag cut kids ∷ [] → (marked ≡ false → cut ≡ false) → (cut && paragraph_next ps) ≡ false → followed ≡ has_thick ps →
     rest ≡ grouped false ps →
     pass_leaf says (leaf_of true (marked && followed) (chained chain nodes)) ⊕ rest ≡ grouped false (chain_pieces says chain ++ (para tag cut kids ∷ ps))
@@ -147,14 +147,14 @@ chain-ends says chain nodes tag marked cut kids followed ps rest e l n f r =
     ∙ sym (grouped-append false xs ps (ap (λ b. b && paragraph_next ps) (ends-last (chain_pieces says chain) tag cut kids) ∙ n))
     ∙ ap (grouped false) (append_assoc (chain_pieces says chain) (para tag cut kids ∷ []) ps)
   where
-    xs : List Piece
+    xs : List GroupPiece
     xs = chain_pieces says chain ++ para tag cut kids ∷ []
 
     next : (marked : Bool) → (marked ≡ false → cut ≡ false) → grouped (marked && followed) xs ≡ grouped (has_thick ps || false) xs
     next true l = ap (λ b. grouped b xs) (f ∙ sym (or-false (has_thick ps)))
     next false l = grouped-next false (has_thick ps || false) None xs (ends-last (chain_pieces says chain) tag cut kids ∙ l refl)
 
-slots-rebuilt : (says : List Say) (ancestors : List Tag) (chain : Option Nodes) (later : List Sibling) (ps : List Piece) → Matches says ancestors later ps → IsAwaited chain later →
+slots-rebuilt : (says : List Say) (ancestors : List Tag) (chain : Option Nodes) (later : List Sibling) (ps : List GroupPiece) → Matches says ancestors later ps → IsAwaited chain later →
     rebuilt says ancestors (slots_from true chain later) ≡ grouped false (chain_pieces says chain ++ ps)
 slots-rebuilt says ancestors None later ps none_left g = refl
 slots-rebuilt says ancestors (Some chain) later ps none_left g = absurd (true≢false (sym g))
@@ -224,7 +224,7 @@ closed-match : (says : List Say) (ancestors : List Tag) (tag : Tag) (kids : Node
 closed-match says ancestors tag kids h k b fit =
     let passed = pass says (tag ∷ ancestors) kids in
     let n = element_pass says ancestors tag kids passed in
-    let one_of : (Bool → Piece) = λ p. if p then para (renamed says ancestors tag) (para_is_cut says kids) (kept_kids says ancestors tag kids passed) else if is_thick tag then thick n else thin n in
+    let one_of : (Bool → GroupPiece) = λ p. if p then para (renamed says ancestors tag) (para_is_cut says kids) (kept_kids says ancestors tag kids passed) else if is_thick tag then thick n else thin n in
     let same = block_para says ancestors tag (plain-open ancestors h) fit in
     let p = is "p" tag && in_blocks ancestors in
     subst (λ x. Match says ancestors (if p then para_sibling (has_mark kids) (element tag kids no_nodes) else if is_thick tag then thick_sibling (element tag kids no_nodes) else thin_sibling (element tag kids no_nodes)) (one_of x))

@@ -8,7 +8,7 @@ use Rattle.redl_tree.specs.Decisions.Tables.{goes_at}
 use Rattle.redl_tree.specs.Leaves.Settings.{SameBut, has_member, leaf_holds, IsUnheld}
 use Rattle.redl_tree.specs.Leaves.Slots.{Slots, no_slots, leaf_slot, container_slot}
 use Rattle.redl_tree.specs.Leaves.Present.{pass_leaf, present_leaves}
-use Rattle.redl_tree.specs.Leaves.Living.{is_between, one_living, living}
+use Rattle.redl_tree.specs.Leaves.Living.{holds_own_of_ancestor, one_living, living}
 use Rattle.redl_tree.specs.Leaves.Rebuilt.{original}
 use Rattle.redl_tree.specs.declared.kinds.Say.{Say}
 use Rattle.redl_laws.proofs.Leaves.Containers.{AllContainers}
@@ -40,11 +40,11 @@ module _ (is_set : ℕ → Bool) (old new : List Say) (same : SameBut is_set old
       living-unheld ancestors rest f u (or_parts (has_member is_set leaf.nodes) (leaf_holds is_set rest) h).1
   living-unheld ancestors (container_slot tag kids inner rest) f u h =
       let below = (or_parts (leaf_holds is_set inner) (leaf_holds is_set rest) h).0 in
-      ap (λ b. (if is_own ancestors tag then (if b then 0 else 1) else if is_between ancestors tag then living old (tag ∷ ancestors) inner else 0) + living old ancestors rest)
+      ap (λ b. (if is_own ancestors tag then (if b then 0 else 1) else if holds_own_of_ancestor ancestors tag then living old (tag ∷ ancestors) inner else 0) + living old ancestors rest)
       (container-same ancestors tag kids inner f.0 u.1 below)
-      ∙ ap (λ n. (if is_own ancestors tag then one_living new ancestors tag kids else if is_between ancestors tag then n else 0) + living old ancestors rest)
+      ∙ ap (λ n. (if is_own ancestors tag then one_living new ancestors tag kids else if holds_own_of_ancestor ancestors tag then n else 0) + living old ancestors rest)
       (living-unheld (tag ∷ ancestors) inner f.1 u.1 below)
-      ∙ ap (λ n. (if is_own ancestors tag then one_living new ancestors tag kids else if is_between ancestors tag then living new (tag ∷ ancestors) inner else 0) + n)
+      ∙ ap (λ n. (if is_own ancestors tag then one_living new ancestors tag kids else if holds_own_of_ancestor ancestors tag then living new (tag ∷ ancestors) inner else 0) + n)
       (living-unheld ancestors rest f.2 u.2 (or_parts (leaf_holds is_set inner) (leaf_holds is_set rest) h).1)
 
   -- the present leaves of slots that hold none stay, but where a container round all of them goes or stays again

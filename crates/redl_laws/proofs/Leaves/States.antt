@@ -12,7 +12,7 @@ use Rattle.redl_tree.specs.Leaves.Containers.{opens, opens_outer}
 use Rattle.redl_tree.specs.Leaves.Slots.{slots_in}
 use Rattle.redl_tree.specs.Leaves.Present.{pass_leaf, present_leaves}
 use Rattle.redl_tree.specs.Leaves.Rebuilt.{rebuilt, original}
-use Rattle.redl_tree.specs.Leaves.Living.{is_between, one_living, owned, living, cut_at, goes_by_counts}
+use Rattle.redl_tree.specs.Leaves.Living.{holds_own_of_ancestor, one_living, owned, living, cut_at, goes_by_counts}
 use Rattle.redl_tree.specs.Leaves.Settings.{SameBut, has_member, leaf_holds, IsUnheld}
 use Rattle.redl_tree.specs.Leaves.States.{States, no_states, leaf_state, container_state, slots_of, shown, lent, one_left, states_owned, states_living, AreTallied, ArePassed, AreCurrent}
 use Rattle.redl_tree.specs.declared.kinds.Say.{Say}
@@ -32,9 +32,9 @@ pub states-owned : (ancestors : List Tag) (states : States) → AreTallied ances
 states-owned ancestors no_states h = refl
 states-owned ancestors (leaf_state leaf present rest) h = states-owned ancestors rest h
 states-owned ancestors (container_state tag tally inner rest) h =
-    ap (λ n. (if is_own ancestors tag then 1 else if is_between ancestors tag then n else 0) + states_owned ancestors rest)
+    ap (λ n. (if is_own ancestors tag then 1 else if holds_own_of_ancestor ancestors tag then n else 0) + states_owned ancestors rest)
     (h.0.owned ∙ states-owned (tag ∷ ancestors) inner h.1)
-    ∙ ap (λ n. (if is_own ancestors tag then 1 else if is_between ancestors tag then owned (tag ∷ ancestors) (slots_of inner) else 0) + n)
+    ∙ ap (λ n. (if is_own ancestors tag then 1 else if holds_own_of_ancestor ancestors tag then owned (tag ∷ ancestors) (slots_of inner) else 0) + n)
     (states-owned ancestors rest h.2)
 
 -- each container goes where its tally says so
@@ -50,10 +50,10 @@ pub states-living : (says : List Say) (ancestors : List Tag) (states : States) �
 states-living says ancestors no_states h g = refl
 states-living says ancestors (leaf_state leaf present rest) h g = states-living says ancestors rest h g
 states-living says ancestors (container_state tag tally inner rest) h g =
-    ap (λ b. (if is_own ancestors tag then one_left b else if is_between ancestors tag then tally.living else 0) + states_living ancestors rest) g.0
-    ∙ ap (λ n. (if is_own ancestors tag then one_living says ancestors tag (original (slots_of inner)) else if is_between ancestors tag then n else 0) + states_living ancestors rest)
+    ap (λ b. (if is_own ancestors tag then one_left b else if holds_own_of_ancestor ancestors tag then tally.living else 0) + states_living ancestors rest) g.0
+    ∙ ap (λ n. (if is_own ancestors tag then one_living says ancestors tag (original (slots_of inner)) else if holds_own_of_ancestor ancestors tag then n else 0) + states_living ancestors rest)
     (h.0.living ∙ states-living says (tag ∷ ancestors) inner h.1 g.1)
-    ∙ ap (λ n. (if is_own ancestors tag then one_living says ancestors tag (original (slots_of inner)) else if is_between ancestors tag then living says (tag ∷ ancestors) (slots_of inner) else 0) + n)
+    ∙ ap (λ n. (if is_own ancestors tag then one_living says ancestors tag (original (slots_of inner)) else if holds_own_of_ancestor ancestors tag then living says (tag ∷ ancestors) (slots_of inner) else 0) + n)
     (states-living says ancestors rest h.2 g.2)
 
 go-tallied : (says : List Say) (ancestors : List Tag) (states : States) → ArePassed says states → AreTallied ancestors states

@@ -12,7 +12,7 @@ use Rattle.redl_tree.specs.Roles.Kinds.{is_content, is_old_content, is_free, is_
 use Rattle.redl_tree.specs.Decisions.Fates.{fate, fate_of, say_of, live_name, renamed}
 use Rattle.redl_tree.specs.Decisions.Restored.{rejected, rejected_as, after_change}
 use Rattle.redl_tree.specs.Decisions.Tables.{own, has_cut, para_is_cut, row_is_cut, cell_is_cut, all_of_some, cells_go, row_goes, rows_go, goes_at}
-use Rattle.redl_tree.specs.Decisions.Groups.{Piece, para, thin, thick, has_thick, joins, given, held_by, grouped_from, grouped}
+use Rattle.redl_tree.specs.Decisions.Groups.{GroupPiece, para, thin, thick, has_thick, joins, given, held_by, grouped_from, grouped}
 use Rattle.redl_tree.specs.Decisions.Pass.{by_fate, kept_kids, element_pass, is_block_para, piece, pieces, pass}
 use Rattle.redl_tree.specs.Leaves.Slots.{Leaf}
 use Rattle.redl_tree.specs.Leaves.Present.{stand_ins, pass_leaf}
@@ -115,7 +115,7 @@ element-none ancestors tag kids passed =
     ∙ ap (λ t. element t (kept_kids [] ancestors tag kids passed) no_nodes) (renamed-none ancestors tag)
     ∙ ap (λ n. element tag n no_nodes) (kept-none ancestors tag kids passed)
 
-abbrev whole_piece : Bool → Bool → Tag → Nodes → Piece
+abbrev whole_piece : Bool → Bool → Tag → Nodes → GroupPiece
 whole_piece is_para heavy tag kids =
     if is_para then para tag false kids else if heavy then thick (element tag kids no_nodes) else thin (element tag kids no_nodes)
 
@@ -130,7 +130,7 @@ piece-none ancestors tag kids passed =
     ∙ ap (λ k. if p then para tag false k else if is_thick tag then thick n else thin n) (kept-none ancestors tag kids passed)
     ∙ ap (λ e. if p then para tag false passed else if is_thick tag then thick e else thin e) (element-none ancestors tag kids passed)
 
-given-whole : (is_para heavy : Bool) (tag : Tag) (kids : Nodes) (rest : List Piece) (followed : Bool)
+given-whole : (is_para heavy : Bool) (tag : Tag) (kids : Nodes) (rest : List GroupPiece) (followed : Bool)
     → given (whole_piece is_para heavy tag kids) None (joins (whole_piece is_para heavy tag kids) rest) (has_thick rest || followed)
     ⊕ grouped_from followed (held_by (whole_piece is_para heavy tag kids) None (joins (whole_piece is_para heavy tag kids) rest)) rest
     ≡ element tag kids (grouped_from followed None rest)

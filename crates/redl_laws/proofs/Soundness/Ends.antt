@@ -10,7 +10,7 @@ use Rattle.redl_tree.specs.Roles.Lists.{into, place, inside, is_direct, in_block
 use Rattle.redl_tree.specs.Roles.Kinds.{is_leave}
 use Rattle.redl_tree.specs.Decisions.Fates.{fate, fate_of, say_of, renamed}
 use Rattle.redl_tree.specs.Decisions.Tables.{goes, goes_at, para_is_cut}
-use Rattle.redl_tree.specs.Decisions.Groups.{Piece, para, thin, thick, paragraph_next, has_thick, joins, joined_tag, joined_kids, given, held_by, grouped_from}
+use Rattle.redl_tree.specs.Decisions.Groups.{GroupPiece, para, thin, thick, paragraph_next, has_thick, joins, joined_tag, joined_kids, given, held_by, grouped_from}
 use Rattle.redl_tree.specs.Decisions.Pass.{kept_kids, element_pass, is_block_para, piece, pieces, pass}
 use Rattle.redl_tree.specs.Rules.Tests.{Test, open_one}
 use Rattle.redl_tree.specs.Rules.CellEnds.{is_so, end_of_one, or_before, end_of_two, end_of}
@@ -92,21 +92,21 @@ no_thick_end (element t k rest) e =
 
 -- Pieces
 
-abbrev piece_end : Piece → Option Bool
+abbrev piece_end : GroupPiece → Option Bool
 piece_end (para tag cut kids) = Some true
 piece_end (thin nodes) = None
 piece_end (thick nodes) = Some (is_so (end_of Direct nodes))
 
-abbrev last_of : List Piece → Option Bool
+abbrev last_of : List GroupPiece → Option Bool
 last_of [] = None
 last_of (p ∷ ps) = or_before (piece_end p) (last_of ps)
 
-abbrev EndOk : Piece → Type 0
+abbrev EndOk : GroupPiece → Type 0
 EndOk (para tag cut kids) = is "p" tag ≡ true
 EndOk (thin nodes) = end_of Direct nodes ≡ None
 EndOk (thick nodes) = Unit {0}
 
-abbrev EndsOk : List Piece → Type 0
+abbrev EndsOk : List GroupPiece → Type 0
 EndsOk [] = Unit {0}
 EndsOk (p ∷ ps) = EndOk p × EndsOk ps
 
@@ -115,11 +115,11 @@ not_so None e = absurd (true≢false (sym e))
 not_so (Some true) e = refl
 not_so (Some false) e = absurd (true≢false (sym e))
 
-last_none : (ps : List Piece) → last_of ps ≡ None → has_thick ps ≡ false
+last_none : (ps : List GroupPiece) → last_of ps ≡ None → has_thick ps ≡ false
 last_none [] e = refl
 last_none (p ∷ ps) e = at p (last_of ps) refl e (last_none ps)
   where
-    at : (p : Piece) (later : Option Bool) → last_of ps ≡ later → or_before (piece_end p) later ≡ None → (last_of ps ≡ None → has_thick ps ≡ false) → has_thick (p ∷ ps) ≡ false
+    at : (p : GroupPiece) (later : Option Bool) → last_of ps ≡ later → or_before (piece_end p) later ≡ None → (last_of ps ≡ None → has_thick ps ≡ false) → has_thick (p ∷ ps) ≡ false
     at p (Some y) w e ih = cc
     at (para t c k) None w e ih = cc
     at (thin n) None w e ih = ih w
@@ -133,7 +133,7 @@ joined_p None tag e = e
 joined_p (Some held) tag e = e
 
 -- a paragraph with nothing thick behind it stays
-given_last : (p : Piece) (held : Option Nodes) (ps : List Piece) → EndOk p → last_of ps ≡ None → piece_end p ≡ Some true →
+given_last : (p : GroupPiece) (held : Option Nodes) (ps : List GroupPiece) → EndOk p → last_of ps ≡ None → piece_end p ≡ Some true →
     end_of Direct (given p held (joins p ps) (has_thick ps || false)) ≡ Some true
 given_last (para tag cut kids) held ps ok n e = at cut (paragraph_next ps) (has_thick ps) (next-thick ps (last_none ps n)) (last_none ps n)
   where
@@ -145,7 +145,7 @@ given_last (para tag cut kids) held ps ok n e = at cut (paragraph_next ps) (has_
 given_last (thin nodes) held ps ok n e = cc
 given_last (thick nodes) held ps ok n e = not_so (end_of Direct nodes) (let s : is_so (end_of Direct nodes) ≡ true = cc in s)
 
-given_none : (p : Piece) (held : Option Nodes) (joining followed : Bool) → EndOk p → piece_end p ≡ None → end_of Direct (given p held joining followed) ≡ None
+given_none : (p : GroupPiece) (held : Option Nodes) (joining followed : Bool) → EndOk p → piece_end p ≡ None → end_of Direct (given p held joining followed) ≡ None
 given_none (para tag cut kids) held joining followed ok e = cc
 given_none (thin nodes) None joining followed ok e = ok
 given_none (thin nodes) (Some held) joining followed ok e = refl
@@ -161,11 +161,11 @@ combine_none pe (Some y) ce cr e f h = cc
 combine_none pe None ce cr e f h = rw (f e, h refl) refl
 
 -- what the result ends with
-record Ends (held : Option Nodes) (ps : List Piece) : Type 0 where
+record Ends (held : Option Nodes) (ps : List GroupPiece) : Type 0 where
   good : last_of ps ≡ Some true → end_of Direct (grouped_from false held ps) ≡ Some true
   none : last_of ps ≡ None → end_of Direct (grouped_from false held ps) ≡ None
 
-ends_of : (held : Option Nodes) (ps : List Piece) → EndsOk ps → Ends held ps
+ends_of : (held : Option Nodes) (ps : List GroupPiece) → EndsOk ps → Ends held ps
 ends_of held [] ok = record { good = λ e. e; none = λ e. refl }
 ends_of held (p ∷ ps) ok =
     let later = held_by p held (joins p ps) in
@@ -195,7 +195,7 @@ abbrev KeepsOne : Nodes → Nodes → Type 0
 KeepsOne xs ys = end_of Control xs ≡ Some true → end_of Control ys ≡ Some true
 
 -- what the pieces of a block list end with
-record KeepsPieces (xs : Nodes) (ps : List Piece) : Type 0 where
+record KeepsPieces (xs : Nodes) (ps : List GroupPiece) : Type 0 where
   good : end_of Direct xs ≡ Some true → last_of ps ≡ Some true
   none : end_of Direct xs ≡ None → last_of ps ≡ None
   ok : EndsOk ps
@@ -225,7 +225,7 @@ foreign_thick ext says ancestors (element a kids rest) i p o g =
 
 -- one element of a block list
 
-record PieceKeeps (pe : Option Bool) (p : Piece) : Type 0 where
+record PieceKeeps (pe : Option Bool) (p : GroupPiece) : Type 0 where
   good : pe ≡ Some true → piece_end p ≡ Some true
   none : pe ≡ None → piece_end p ≡ None
   ok : EndOk p
@@ -406,7 +406,7 @@ facts ext says ancestors (element a kids rest) g =
           let k = ih.of_blocks h in
           let x = pass says (a ∷ ancestors) kids in
           let n = element_pass says ancestors a kids x in
-          let one_of : (Bool → Piece) = λ b. if b then para (renamed says ancestors a) (para_is_cut says kids) (kept_kids says ancestors a kids x) else if is_thick a then thick n else thin n in
+          let one_of : (Bool → GroupPiece) = λ b. if b then para (renamed says ancestors a) (para_is_cut says kids) (kept_kids says ancestors a kids x) else if is_thick a then thick n else thin n in
           let p : PieceKeeps (end_of_one Direct a (end_of (into Direct a) kids)) (piece says ancestors a kids x) =
           subst (λ b. PieceKeeps (end_of_one Direct a (end_of (into Direct a) kids)) (one_of b)) (sym (block_para says ancestors a h g.0.fits))
           (piece_keeps (is "p" a) (is_wrapper a) (is_thick a) (para_is_cut says kids) (renamed says ancestors a) (kept_kids says ancestors a kids x) n (end_of (into Direct a) kids)

@@ -11,7 +11,7 @@ use Rattle.redl_tree.specs.Roles.Lists.{is_direct}
 use Rattle.redl_tree.specs.Roles.Kinds.{is_content}
 use Rattle.redl_tree.specs.Decisions.Fates.{fate_of, renamed}
 use Rattle.redl_tree.specs.Decisions.Tables.{goes_at}
-use Rattle.redl_tree.specs.Decisions.Groups.{Piece, para, thin, thick, has_thick, joins, ended, joined_tag, joined_kids, unjoined_para, given, held_by, grouped_from}
+use Rattle.redl_tree.specs.Decisions.Groups.{GroupPiece, para, thin, thick, has_thick, joins, ended, joined_tag, joined_kids, unjoined_para, given, held_by, grouped_from}
 use Rattle.redl_tree.specs.Decisions.Pass.{by_fate, kept_kids, element_pass, pieces, pass}
 use Rattle.redl_tree.specs.Rules.Tests.{Test, implies, once, only_first, only_last}
 use Rattle.redl_tree.specs.Rules.Sound.{in_content}
@@ -310,7 +310,7 @@ sub_settled n ends a b ka kb l = at (has_element (without (is "pPr") kb)) refl e
     at false e true = rw ⊕-no_nodes at (sub_bytes n (element a ka no_nodes) no_nodes (without (is "pPr") kb) e (drop_all n (element a ka no_nodes)))
     at false e false = keeps a b ka kb l done
 
-sub_given : (n : Tag → Bool) (p : Piece) (held : Option Nodes) (joining followed : Bool) → Sub n (alone p) (given p held joining followed)
+sub_given : (n : Tag → Bool) (p : GroupPiece) (held : Option Nodes) (joining followed : Bool) → Sub n (alone p) (given p held joining followed)
 sub_given n (para tag cut kids) held true followed = drop_all n (element tag kids no_nodes)
 sub_given n (para tag cut kids) held false followed =
     sub_settled n (cut && followed) tag (joined_tag held tag) kids (joined_kids held kids) (like_joined held tag)
@@ -318,7 +318,7 @@ sub_given n (thin nodes) None joining followed = same_top n nodes
 sub_given n (thin nodes) (Some held) joining followed = drop_all n nodes
 sub_given n (thick nodes) held joining followed = same_top n nodes
 
-sub_grouped : (n : Tag → Bool) (followed : Bool) (held : Option Nodes) (ps : List Piece) → Sub n (all_alone ps) (grouped_from followed held ps)
+sub_grouped : (n : Tag → Bool) (followed : Bool) (held : Option Nodes) (ps : List GroupPiece) → Sub n (all_alone ps) (grouped_from followed held ps)
 sub_grouped n followed held [] = done
 sub_grouped n followed held (p ∷ ps) =
     sub-⊕ n (alone p) (given p held (joins p ps) (has_thick ps || followed)) (all_alone ps) (grouped_from followed (held_by p held (joins p ps)) ps)

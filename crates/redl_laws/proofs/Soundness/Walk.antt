@@ -11,7 +11,7 @@ use Rattle.redl_tree.specs.Roles.Kinds.{is_content, is_change, is_restore}
 use Rattle.redl_tree.specs.Decisions.Fates.{fate_of, renamed}
 use Rattle.redl_tree.specs.Decisions.Restored.{Rejected, rejected, rejected_as, after_change, present, restored, former_kids, is_uncovered}
 use Rattle.redl_tree.specs.Decisions.Tables.{goes_at, para_is_cut}
-use Rattle.redl_tree.specs.Decisions.Groups.{Piece, para, thin, thick, has_thick, joins as joins_piece, taken, ended, joined_tag, joined_kids, unjoined_para, given, held_by, grouped_from}
+use Rattle.redl_tree.specs.Decisions.Groups.{GroupPiece, para, thin, thick, has_thick, joins as joins_piece, taken, ended, joined_tag, joined_kids, unjoined_para, given, held_by, grouped_from}
 use Rattle.redl_tree.specs.Decisions.Pass.{by_fate, kept_kids, element_pass, is_block_para, pieces, pass}
 use Rattle.redl_tree.specs.Rules.Tests.{Test, everywhere}
 use Rattle.redl_tree.specs.Rules.Sound.{test_1, test_2, test_4, test_5, test_6, test_8, below_change}
@@ -379,7 +379,7 @@ p_made ext says old a kids e g = at (rejected says kids) refl
 
 -- Pieces
 
-abbrev pub GoodPiece : Test → List Tag → Piece → Type 0
+abbrev pub GoodPiece : Test → List Tag → GroupPiece → Type 0
 GoodPiece test new (para tag cut kids) =
     (is "p" tag ≡ true) × ((b : Tag) → is "p" b ≡ true → everywhere test (b ∷ new) kids ≡ true) × (test new tag kids ≡ true)
 GoodPiece test new (thin nodes) =
@@ -387,7 +387,7 @@ GoodPiece test new (thin nodes) =
 GoodPiece test new (thick nodes) =
     (everywhere test new nodes ≡ true) × ((b : Tag) → is "p" b ≡ true → everywhere test (b ∷ new) (without (is "pPr") nodes) ≡ true)
 
-abbrev pub GoodPieces : Test → List Tag → List Piece → Type 0
+abbrev pub GoodPieces : Test → List Tag → List GroupPiece → Type 0
 GoodPieces test new [] = Unit {0}
 GoodPieces test new (p ∷ ps) = GoodPiece test new p × GoodPieces test new ps
 
@@ -427,7 +427,7 @@ taken_good test new (Some held) nodes h g = (
   some-⊕ (is "pPr") held (without (is "pPr") nodes) h.1 (some-left_out (is "pPr") nodes),
 )
 
-held_good : (test : Test) (new : List Tag) (p : Piece) (held : Option Nodes) (joining : Bool) → GoodPiece test new p → GoodHeld test new held → GoodHeld test new (held_by p held joining)
+held_good : (test : Test) (new : List Tag) (p : GroupPiece) (held : Option Nodes) (joining : Bool) → GoodPiece test new p → GoodHeld test new held → GoodHeld test new (held_by p held joining)
 held_good test new (para tag cut kids) held true g h =
     taken_good test new held kids h (λ b e. everywhere-without (is "pPr") test (b ∷ new) kids (g.1 b e))
 held_good test new (para tag cut kids) held false g h = tt
@@ -456,7 +456,7 @@ joined_good test j new ends (Some held) tag kids g h =
     (everywhere-⊕ test (b ∷ new) held (without (is "pPr") kids) (h.0 b g.0) (everywhere-without (is "pPr") test (b ∷ new) kids (g.1 b g.0))))
     (j new tag (ended tag.close) kids more g.0 g.2 (some-⊕ (is "pPr") held (without (is "pPr") kids) h.1 (some-left_out (is "pPr") kids)))
 
-given_good : (test : Test) → Joins test → (new : List Tag) (p : Piece) (held : Option Nodes) (joining followed : Bool) → GoodPiece test new p → GoodHeld test new held →
+given_good : (test : Test) → Joins test → (new : List Tag) (p : GroupPiece) (held : Option Nodes) (joining followed : Bool) → GoodPiece test new p → GoodHeld test new held →
     everywhere test new (given p held joining followed) ≡ true
 given_good test j new (para tag cut kids) held true followed g h = refl
 given_good test j new (para tag cut kids) held false followed g h = joined_good test j new (cut && followed) held tag kids g h
@@ -464,7 +464,7 @@ given_good test j new (thin nodes) None joining followed g h = g.0
 given_good test j new (thin nodes) (Some held) joining followed g h = refl
 given_good test j new (thick nodes) held joining followed g h = g.0
 
-pub grouped_good : (test : Test) → Joins test → (new : List Tag) (followed : Bool) (held : Option Nodes) (ps : List Piece) → GoodPieces test new ps → GoodHeld test new held →
+pub grouped_good : (test : Test) → Joins test → (new : List Tag) (followed : Bool) (held : Option Nodes) (ps : List GroupPiece) → GoodPieces test new ps → GoodHeld test new held →
     everywhere test new (grouped_from followed held ps) ≡ true
 grouped_good test j new followed held [] g h = refl
 grouped_good test j new followed held (p ∷ ps) g h =

@@ -14,7 +14,7 @@ use Rattle.redl_tree.specs.Roles.Kinds.{is_content, is_cut, is_drop}
 use Rattle.redl_tree.specs.Decisions.Fates.{fate, fate_of, say_of, trace_fate, renamed, live_name, is_revived}
 use Rattle.redl_tree.specs.Decisions.Restored.{rejected, after_change}
 use Rattle.redl_tree.specs.Decisions.Tables.{goes_at, para_is_cut}
-use Rattle.redl_tree.specs.Decisions.Groups.{Piece, para, thin, thick, has_thick, joins, taken, joined_tag, joined_kids, unjoined_para, given, held_by, grouped_from}
+use Rattle.redl_tree.specs.Decisions.Groups.{GroupPiece, para, thin, thick, has_thick, joins, taken, joined_tag, joined_kids, unjoined_para, given, held_by, grouped_from}
 use Rattle.redl_tree.specs.Decisions.Pass.{by_fate, kept_kids, element_pass, is_block_para, piece, pieces, pass}
 use Rattle.redl_tree.specs.Decisions.Survivors.{Stretch, stretches_in, is_gone, any_gone, text_pieces, survivors}
 use Rattle.redl_tree.specs.declared.kinds.Trace.{Trace}
@@ -71,23 +71,23 @@ texts-only (element tag kids rest) = at (is "pPr" tag) refl (texts-only rest)
 
 -- Lists that are put together
 
-abbrev pub piece_texts : Piece → List (List ℕ)
+abbrev pub piece_texts : GroupPiece → List (List ℕ)
 piece_texts (para tag cut kids) = texts kids
 piece_texts (thin nodes) = texts nodes
 piece_texts (thick nodes) = texts nodes
 
-abbrev pub pieces_texts : List Piece → List (List ℕ)
+abbrev pub pieces_texts : List GroupPiece → List (List ℕ)
 pieces_texts [] = []
 pieces_texts (p ∷ ps) = piece_texts p ++ pieces_texts ps
 
 -- the paragraphs among these are no properties
-abbrev pub IsLoudPiece : Piece → Type 0
+abbrev pub IsLoudPiece : GroupPiece → Type 0
 IsLoudPiece (para tag cut kids) = is_quiet tag ≡ false
 IsLoudPiece (thin nodes) = Unit {0}
 IsLoudPiece (thick nodes) = Unit {0}
 
 -- no paragraph of the pieces is quiet
-abbrev pub AreLoud : List Piece → Type 0
+abbrev pub AreLoud : List GroupPiece → Type 0
 AreLoud [] = Unit {0}
 AreLoud (p ∷ ps) = IsLoudPiece p × AreLoud ps
 
@@ -118,7 +118,7 @@ loud_joined None tag q = q
 loud_joined (Some held) tag q = q
 
 -- what a node gives, and what is held behind it, is what was held and what it holds itself
-texts-given : (p : Piece) (held : Option Nodes) (joins followed : Bool) (ps : List Piece) → IsLoudPiece p → Takes held (p ∷ ps) →
+texts-given : (p : GroupPiece) (held : Option Nodes) (joins followed : Bool) (ps : List GroupPiece) → IsLoudPiece p → Takes held (p ∷ ps) →
     texts (given p held joins followed) ++ held_texts (held_by p held joins) ≡ held_texts held ++ piece_texts p
 texts-given (para tag cut kids) held true followed ps l t = texts-taken held kids
 texts-given (para tag cut kids) held false followed ps l t =
@@ -130,7 +130,7 @@ texts-given (thick nodes) None joins followed ps l t = append-nil (texts nodes)
 texts-given (thick nodes) (Some held) joins followed ps l t = absurd (true≢false (sym t))
 
 -- joining and dissolving paragraphs leaves the text pieces as they are
-pub texts-grouped : (followed : Bool) (held : Option Nodes) (ps : List Piece) → AreLoud ps → Takes held ps →
+pub texts-grouped : (followed : Bool) (held : Option Nodes) (ps : List GroupPiece) → AreLoud ps → Takes held ps →
     texts (grouped_from followed held ps) ≡ held_texts held ++ pieces_texts ps
 texts-grouped followed None [] l t = refl
 texts-grouped followed (Some held) [] l t = absurd (true≢false (sym t))
@@ -288,7 +288,7 @@ element_texts says ancestors tag kids passed inner o fit below ih =
 
 -- what a node of a list leaves of the text pieces is what it gives by itself
 
-texts-alone : (p : Piece) → IsLoudPiece p → piece_texts p ≡ texts (alone p)
+texts-alone : (p : GroupPiece) → IsLoudPiece p → piece_texts p ≡ texts (alone p)
 texts-alone (para tag cut kids) q = sym (texts-one tag kids ∙ cond-false (is_quiet tag) [] (texts kids) q)
 texts-alone (thin nodes) q = refl
 texts-alone (thick nodes) q = refl

@@ -2,7 +2,7 @@
 use Rattle.std.specs.Prelude.{ℕ, zero, suc, ◌+◌, ◌-◌, ◌^◌, ◌≡◌, ◌≤◌, min, List, [], ◌∷◌, Bool, ◌&&◌, ◌||◌, if◌then◌else◌}
 use Rattle.redl_tree.specs.Model.Nodes.{Tag}
 use Rattle.redl_tree.specs.Roles.Names.{is}
-use Rattle.redl_tree.specs.Leaves.Living.{is_between, all_gone, cut_at, goes_by_counts}
+use Rattle.redl_tree.specs.Leaves.Living.{holds_own_of_ancestor, all_gone, cut_at, goes_by_counts}
 use Rattle.redl_tree.specs.Leaves.Rebuilt.{original}
 use Rattle.redl_tree.specs.declared.kinds.Say.{Say}
 use Rattle.redl_tree.specs.Leaves.States.{Tally, States, no_states, leaf_state, container_state, slots_of, states_owned, states_living, one_left}
@@ -54,7 +54,7 @@ HasNumbersIn ancestors (container_view tag tally inner) =
 -- how many a slot adds
 abbrev pub share : List Tag → SlotView → ℕ
 share ancestors (leaf_view leaf present) = 0
-share ancestors (container_view tag tally inner) = if is_own ancestors tag then one_left tally.gone else if is_between ancestors tag then tally.living else 0
+share ancestors (container_view tag tally inner) = if is_own ancestors tag then one_left tally.gone else if holds_own_of_ancestor ancestors tag then tally.living else 0
 
 -- the same of a container, with the summary of its ancestors
 abbrev pub left_at : Spot → Tag → KeptTally → ℕ

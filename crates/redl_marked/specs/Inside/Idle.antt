@@ -9,16 +9,16 @@ use Rattle.redl_idle.specs.Takes.{Taking}
 use Rattle.redl_idle.specs.Takings.{by_state}
 use Rattle.redl_marked.specs.MarkedText.{open_start}
 use Rattle.redl_marked.specs.declared.idle.Last.{Last}
-use Rattle.redl_marked.specs.declared.summary.Summary.{Summary}
+use Rattle.redl_marked.specs.declared.summary.MarkedSummary.{MarkedSummary}
 
 -- the summary for the kids of an idle element
-abbrev pub inside_idle : Summary → List ℕ → Summary
+abbrev pub inside_idle : MarkedSummary → List ℕ → MarkedSummary
 inside_idle above local = record {
   quiet = is "rPr" (of_w local) || above.quiet;
   text = is "t" (of_w local) && not above.quiet;
 }
 
-abbrev pub idle_rule : ShowRule Summary
+abbrev pub idle_rule : ShowRule MarkedSummary
 idle_rule = record {
   bytes = λ above b. if above.text then shown b else [];
   start = λ above local tail kids. if not above.quiet then open_start (of_w local) else [];

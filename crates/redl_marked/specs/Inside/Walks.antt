@@ -10,34 +10,34 @@ use Rattle.redl_opc.specs.Parts.{part_name, story}
 use Rattle.redl_shown.specs.Shown.{shown}
 use Rattle.redl_marked.specs.Signs.{start_sign, end_sign, mark_sign, mark_signs, run_signs}
 use Rattle.redl_marked.specs.MarkedText.{NamedStory, in_text, open_start, open_end}
-use Rattle.redl_marked.specs.declared.summary.Summary.{Summary}
+use Rattle.redl_marked.specs.declared.summary.MarkedSummary.{MarkedSummary}
 
-abbrev pub summary_of : List Tag → Summary
+abbrev pub summary_of : List Tag → MarkedSummary
 summary_of ancestors = record { quiet = list_any is_quiet ancestors; text = in_text ancestors }
 
 -- the summary for the kids of an element
-abbrev pub inside : Tag → Summary → Summary
+abbrev pub inside : Tag → MarkedSummary → MarkedSummary
 inside tag above = record {
   quiet = is_quiet tag || above.quiet;
   text = is_any ("t" ∷ "delText" ∷ []) tag && not above.quiet;
 }
 
 -- what an element shows at its start tag and at its end tag
-abbrev pub start_of : Summary → Tag → List ℕ
+abbrev pub start_of : MarkedSummary → Tag → List ℕ
 start_of above tag = start_sign tag.kind tag.rev ++ (if not above.quiet then open_start tag else [])
 
-abbrev pub end_of : Summary → Tag → Nodes → List ℕ
+abbrev pub end_of : MarkedSummary → Tag → Nodes → List ℕ
 end_of above tag kids = (if not above.quiet then open_end tag kids else []) ++ end_sign tag.kind
 
 -- the marked text of nodes
-abbrev pub marked : Summary → Nodes → List ℕ
+abbrev pub marked : MarkedSummary → Nodes → List ℕ
 marked above no_nodes = []
 marked above (bytes b rest) = (if above.text then shown b else []) ++ marked above rest
 marked above (element tag kids rest) =
     (start_of above tag ++ (marked (inside tag above) kids ++ end_of above tag kids)) ++ marked above rest
 
 -- of one node
-abbrev pub item_marked : Summary → Item → List ℕ
+abbrev pub item_marked : MarkedSummary → Item → List ℕ
 item_marked above (bytes_item b) = if above.text then shown b else []
 item_marked above (element_item tag kids) = start_of above tag ++ (marked (inside tag above) kids ++ end_of above tag kids)
 item_marked above (idle_item t) = marked above (idle_nodes t)

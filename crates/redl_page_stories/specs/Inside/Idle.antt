@@ -6,11 +6,11 @@ use Rattle.redl_idle.specs.Shows.{ShowRule, shows}
 use Rattle.redl_shown.specs.Shown.{shown}
 use Rattle.redl_stamp.specs.Attribute.{written_value}
 use Rattle.redl_page_stories.specs.declared.idle.Within.{Within}
-use Rattle.redl_page_stories.specs.declared.place.Place.{Place}
+use Rattle.redl_page_stories.specs.declared.place.PageSummary.{PageSummary}
 use Rattle.redl_page_stories.specs.declared.shape.Shape.{Shape}
 use Rattle.redl_page_stories.specs.declared.shape.Shape.TheVariants.{Nothing, Symbol, Reference, Note}
 use Rattle.redl_page_stories.specs.Document.{bytes_pieces}
-use Rattle.redl_html.specs.Pieces.{Piece, own, pieces_text}
+use Rattle.redl_html.specs.Pieces.{HtmlPiece, own, pieces_text}
 use Rattle.redl_page_stories.specs.Shapes.{closing, has_property, inline_shape, is_reference, note_pieces, opening, run_shape, symbol_pieces}
 
 -- what an idle element with this local name and these kids is shown as, by its name
@@ -24,18 +24,18 @@ abbrev pub idle_shape : Bool → List ℕ → Nodes → Shape
 idle_shape loud local kids = if loud then idle_named local kids else Nothing
 
 -- what comes behind the opening, where the element has this tail
-abbrev pub behind_idle : Shape → List ℕ → List Piece
+abbrev pub behind_idle : Shape → List ℕ → List HtmlPiece
 behind_idle Symbol tail = symbol_pieces (written_value tail (codes "char"))
 behind_idle Reference tail = note_pieces (written_value tail (codes "id"))
 behind_idle Note tail = note_pieces (written_value tail (codes "id"))
 behind_idle _ tail = []
 
 -- what comes before its kids
-abbrev pub idle_start : Shape → List ℕ → List Piece
+abbrev pub idle_start : Shape → List ℕ → List HtmlPiece
 idle_start shape tail = own (opening shape) ∷ behind_idle shape tail
 
 -- the place of its kids
-abbrev pub idle_place : Place → List ℕ → Place
+abbrev pub idle_place : PageSummary → List ℕ → PageSummary
 idle_place place local = record {
   loud = place.loud && not (is "rPr" (of_w local));
   shows = place.loud && is "t" (of_w local);
@@ -56,5 +56,5 @@ page_rule = record {
 }
 
 -- idle nodes that have this place
-abbrev pub idle_text : Place → Nodes → List ℕ
+abbrev pub idle_text : PageSummary → Nodes → List ℕ
 idle_text place nodes = shows page_rule (record { place = place; shape = Nothing }) nodes

@@ -8,9 +8,9 @@ use Rattle.redl_index.specs.declared.revision.Revision.{Revision}
 use Rattle.redl_page_stories.specs.declared.values.Property.{Property}
 use Rattle.redl_page_stories.specs.declared.marks.Depth.{Depth}
 use Rattle.redl_page_stories.specs.declared.marks.Depth.TheVariants.{Kids, Properties, RunProperties}
-use Rattle.redl_page_stories.specs.declared.place.Place.{Place}
+use Rattle.redl_page_stories.specs.declared.place.PageSummary.{PageSummary}
 use Rattle.redl_page_stories.specs.Document.{bytes_pieces, element_pieces, inside, marks_in, nodes_pieces}
-use Rattle.redl_html.specs.Pieces.{Piece}
+use Rattle.redl_html.specs.Pieces.{HtmlPiece}
 use Rattle.redl_page_stories.specs.Shapes.{given_by, holds, holds_blocks, is_block, switched_on, switches, value_in}
 use Rattle.redl_page_stories.specs.Signs.{member}
 
@@ -53,20 +53,20 @@ item_value property (idle_item t) = None
 -- ---- the marks of a paragraph
 
 -- the members of a mark that an element is or holds
-abbrev pub element_marks : List Revision → Depth → Tag → Nodes → List Piece
+abbrev pub element_marks : List Revision → Depth → Tag → Nodes → List HtmlPiece
 element_marks revisions Kids tag kids = if is "pPr" tag then marks_in revisions Properties kids else []
 element_marks revisions Properties tag kids = if is "rPr" tag then marks_in revisions RunProperties kids else []
 element_marks revisions RunProperties tag kids = if is_mark tag.kind then member revisions tag.kind tag.rev else []
 
 -- the same of a node
-abbrev pub item_marks : List Revision → Depth → Item → List Piece
+abbrev pub item_marks : List Revision → Depth → Item → List HtmlPiece
 item_marks revisions depth (bytes_item b) = []
 item_marks revisions depth (element_item tag kids) = element_marks revisions depth tag kids
 item_marks revisions depth (idle_item t) = []
 
 -- ---- all that is shown of it
 
-abbrev pub item_pieces : (List ℕ → List ℕ) → List Revision → Place → Item → List Piece
+abbrev pub item_pieces : (List ℕ → List ℕ) → List Revision → PageSummary → Item → List HtmlPiece
 item_pieces shown revisions place (bytes_item b) = bytes_pieces shown place b
 item_pieces shown revisions place (element_item tag kids) =
     element_pieces revisions place tag kids (nodes_pieces shown revisions (inside tag place) kids)

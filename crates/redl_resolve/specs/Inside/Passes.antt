@@ -1,7 +1,7 @@
 -- What each function of the walk says: what becomes of the nodes that it is given, and what it counts.
 use Rattle.std.specs.Prelude.{◌≡◌, ℕ, ◌+◌, ◌≤◌, List, ◌∷◌, Result, IfOk}
 use Rattle.redl_tree.specs.Decisions.Fates.{renamed}
-use Rattle.redl_tree.specs.Decisions.Groups.{Piece}
+use Rattle.redl_tree.specs.Decisions.Groups.{GroupPiece}
 use Rattle.redl_tree.specs.Decisions.Pass.{pass, kept_kids}
 use Rattle.redl_tree.specs.Model.Nodes.{Tag, Nodes}
 use Rattle.redl_tree.specs.Model.View.{tag_of, kids_of}
@@ -34,7 +34,7 @@ pub record Stays (says : List Say) (ancestors : List Tag) (old new : Elem) : Typ
   pub kids : kids_of new ≡ kept_kids says ancestors (tag_of old) (kids_of old) (pass says (tag_of old ∷ ancestors) (kids_of old))
 
 -- of an element that gives this piece to the list that is made
-abbrev pub PassesElem : List Say → Round → Elem → (List Say → List Tag → Tag → Nodes → Piece) → Made → Made → Finding → Type 0
+abbrev pub PassesElem : List Say → Round → Elem → (List Say → List Tag → Tag → Nodes → GroupPiece) → Made → Made → Finding → Type 0
 PassesElem says round elem piece old new found =
     Passes says round (λ ancestors. AddsPiece old new (piece says ancestors (tag_of elem) (kids_of elem))) found (elem_answer says round.asked (tag_of elem) (kids_of elem))
 

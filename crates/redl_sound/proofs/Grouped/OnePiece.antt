@@ -3,7 +3,7 @@ use Rattle.std.proofs.Common.{◌≡◌, ◌∙◌, refl, ap, sym, List, [], ◌
 use Rattle.std.specs.Cmp.{first_so, second_so}
 use Rattle.std.proofs.lemmas.Bool.{and_from}
 use Rattle.redl_sound.specs.Groups.{BeginsGroup, are_before_last, bare_content, content, one_para, own_tag}
-use Rattle.redl_tree.specs.Decisions.Groups.{Piece, para, thin, thick, paragraph_next, has_thick, joins, given, held_by, grouped_from, grouped, unjoined_para, joined_tag, joined_kids}
+use Rattle.redl_tree.specs.Decisions.Groups.{GroupPiece, para, thin, thick, paragraph_next, has_thick, joins, given, held_by, grouped_from, grouped, unjoined_para, joined_tag, joined_kids}
 use Rattle.redl_tree.specs.Model.Kids.{only, without}
 use Rattle.redl_tree.specs.Model.Nodes.{Tag, Nodes, ◌⊕◌}
 use Rattle.redl_tree.specs.Roles.Names.{is}
@@ -13,9 +13,9 @@ use Rattle.redl_tree.proofs.Model.Laws.{⊕_assoc, ⊕-no_nodes}
 
 -- ---- one group
 
-module _ (tag : Tag) (cut : Bool) (kids : Nodes) (rest : List Piece) where
+module _ (tag : Tag) (cut : Bool) (kids : Nodes) (rest : List GroupPiece) where
   -- behind the pieces before it the last paragraph comes next
-  paragraph-next : (between : List Piece) → are_before_last between ≡ true → paragraph_next (between ++ para tag cut kids ∷ rest) ≡ true
+  paragraph-next : (between : List GroupPiece) → are_before_last between ≡ true → paragraph_next (between ++ para tag cut kids ∷ rest) ≡ true
   paragraph-next [] before = refl
   paragraph-next (para t c k ∷ more) before = refl
   paragraph-next (thin nodes ∷ more) before = paragraph-next more before
@@ -32,10 +32,10 @@ module _ (tag : Tag) (cut : Bool) (kids : Nodes) (rest : List Piece) where
         ap (λ b. given (para tag cut kids) held b (has_thick rest || followed) ⊕ grouped_from followed (held_by (para tag cut kids) held b) rest) ends
 
     -- a piece more is held
-    one-more : (held : Nodes) (piece : Piece) (more : List Piece) → whole ((held ⊕ without (is "pPr") (content piece)) ⊕ bare_content more) ≡ whole (held ⊕ bare_content (piece ∷ more))
+    one-more : (held : Nodes) (piece : GroupPiece) (more : List GroupPiece) → whole ((held ⊕ without (is "pPr") (content piece)) ⊕ bare_content more) ≡ whole (held ⊕ bare_content (piece ∷ more))
     one-more held piece more = ap whole (⊕_assoc held (without (is "pPr") (content piece)) (bare_content more))
 
-    held-so-far : (held : Nodes) (between : List Piece) → are_before_last between ≡ true
+    held-so-far : (held : Nodes) (between : List GroupPiece) → are_before_last between ≡ true
         → grouped_from followed (Some held) (between ++ para tag cut kids ∷ rest) ≡ whole (held ⊕ bare_content between)
     held-so-far held [] before = last-piece (Some held) ∙ ap whole (sym (⊕-no_nodes held))
     held-so-far held (para t c k ∷ more) before =
@@ -48,7 +48,7 @@ module _ (tag : Tag) (cut : Bool) (kids : Nodes) (rest : List Piece) where
     held-so-far held (thin nodes ∷ more) before = held-so-far (held ⊕ without (is "pPr") nodes) more before ∙ one-more held (thin nodes) more
     held-so-far held (thick nodes ∷ more) before = absurd (true≢false (sym before))
 
-    pub several-are-one : (first : Tag) (first_kids : Nodes) (between : List Piece) → are_before_last between ≡ true
+    pub several-are-one : (first : Tag) (first_kids : Nodes) (between : List GroupPiece) → are_before_last between ≡ true
         → grouped followed (para first true first_kids ∷ (between ++ para tag cut kids ∷ rest))
         ≡ unjoined_para (cut && (has_thick rest || followed)) (own_tag tag) (one_para (para first true first_kids ∷ between) kids) ⊕ grouped followed rest
     several-are-one first first_kids between before =
@@ -62,17 +62,17 @@ module _ (tag : Tag) (cut : Bool) (kids : Nodes) (rest : List Piece) where
 
 -- ---- where a group begins
 
-record IsRun (pieces : List Piece) : Type 0 where
-  pub between : List Piece
+record IsRun (pieces : List GroupPiece) : Type 0 where
+  pub between : List GroupPiece
   pub last : Tag
   pub last_cut : Bool
   pub last_kids : Nodes
-  pub later : List Piece
+  pub later : List GroupPiece
   pub splits : pieces ≡ between ++ para last last_cut last_kids ∷ later
   pub are_before : are_before_last between ≡ true
   pub is_last : joins (para last last_cut last_kids) later ≡ false
 
-run-of : (pieces : List Piece) → paragraph_next pieces ≡ true → IsRun pieces
+run-of : (pieces : List GroupPiece) → paragraph_next pieces ≡ true → IsRun pieces
 run-of [] next = absurd (true≢false (sym next))
 run-of (para t c k ∷ more) next = by (joins (para t c k) more) refl (run-of more)
   where
@@ -104,7 +104,7 @@ run-of (thin nodes ∷ more) next =
     }
 run-of (thick nodes ∷ more) next = absurd (true≢false (sym next))
 
-pub begins-group : (tag : Tag) (cut : Bool) (kids : Nodes) (rest : List Piece) → joins (para tag cut kids) rest ≡ true → BeginsGroup cut rest
+pub begins-group : (tag : Tag) (cut : Bool) (kids : Nodes) (rest : List GroupPiece) → joins (para tag cut kids) rest ≡ true → BeginsGroup cut rest
 begins-group tag cut kids rest e =
     let run = run-of rest (second_so cut (paragraph_next rest) e) in
     record {

@@ -18,7 +18,7 @@ use Rattle.redl_sound.proofs.Sampled.Legal.{digits_safe, is_tag, legal_tag}
 use Rattle.redl_sound.proofs.Sampled.Moved.{block_of, outside, HasFields, block_marks, block_own, block_moved, with_move, revisions_in, start_at}
 use Rattle.redl_sound.proofs.Sampled.Outside.{body_tag, document_tag}
 use Rattle.redl_sound.proofs.Sampled.Own.{past, past_later, all_own, own_revisions, with_more, seen-⊕, numbering-⊕, own_numbering, by_role}
-use Rattle.redl_sound.proofs.Sampled.Placed.{start, start_next, move_before, part_marks, all_moves, alone, moves_are}
+use Rattle.redl_sound.proofs.Sampled.Placed.{start, start_next, move_before, part_marks, all_moves, move-alone, moves_are}
 use Rattle.redl_sound.proofs.Sampled.Readings.{body, digits_of_number, last, sample_nodes}
 use Rattle.redl_sound.proofs.Sampled.Shapes.{Shape, end, words, empty, full, nodes_of, tail_of, tag_with}
 use Rattle.redl_sound.proofs.Sampled.Turns.{before, before_is}
@@ -150,7 +150,7 @@ module _ (size : ℕ) (few : size ≤ 20000) where
         after = with_move (start_at (start k)) so_far;
         is = ap (λ f. numbering_after attribute_value (all_moves size) around (start k) so_far (block_of f (decimal k))) is
             ∙ block_moved attribute_value (all_moves size) (decimal k) 1 0 whole (element body_tag whole no_nodes)
-            (fields_of k (omega (arith, few, within))) (start k) (alone size k within is) so_far (new (start_at (start k)) (omega arith));
+            (fields_of k (omega (arith, few, within))) (start k) (move-alone size k within is) so_far (new (start_at (start k)) (omega arith));
         counted_ = ap (λ f. so_far.next + revisions_in f) (sym is);
         new = new_later k so_far is new;
       }

@@ -14,7 +14,7 @@ use Rattle.redl_grammar.specs.Names.{Name, IsWord, are_distinct, may_follow, may
 use Rattle.redl_grammar.specs.References.{has_references}
 use Rattle.redl_grammar.specs.Stretches.{IsStretch, no_head}
 use Rattle.redl_grammar.specs.Tails.{Attribute, IsAttribute, IsTail, named_value}
-use Rattle.redl_grammar.specs.declared.place.Place.TheVariants.{InElement}
+use Rattle.redl_grammar.specs.declared.section.Section.TheVariants.{InElement}
 use Rattle.redl_sound.proofs.Sampled.Shapes.{Filled, Field, Shape, end, words, empty, full, attribute_of, attributes, filled_with, nodes_of, tag_with, tail_of}
 use Rattle.redl_tree.specs.Model.Nodes.{Nodes, no_nodes, Close}
 use Rattle.redl_tree.specs.declared.kinds.Space.TheVariants.{W, Pkg}

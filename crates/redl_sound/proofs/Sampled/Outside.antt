@@ -8,7 +8,7 @@ use Rattle.redl_grammar.specs.Characters.{is_space, is_name_start, is_name_chara
 use Rattle.redl_grammar.specs.Names.{are_distinct, may_follow, may_start}
 use Rattle.redl_grammar.specs.Stretches.{IsStretch, IsSetting, is_version}
 use Rattle.redl_grammar.specs.Tails.{Attribute, IsAttribute, IsTail, attributes_then, named_value}
-use Rattle.redl_grammar.specs.declared.place.Place.TheVariants.{BeforeRoot}
+use Rattle.redl_grammar.specs.declared.section.Section.TheVariants.{BeforeRoot}
 use Rattle.redl_sound.proofs.Sampled.Legal.{all_weaker, body_scope, is_safe, is_word, no_quote, no_tag, safe_references, w_word, word_of}
 use Rattle.redl_tree.specs.Model.Nodes.{Tag, Nodes, no_nodes, element, End}
 use Rattle.redl_tree.specs.declared.kinds.Kind.TheVariants.{Plain}

@@ -122,8 +122,8 @@ only_move test size k position within is low high apart own =
     ∙ ap (λ f. filter test (moves_of f (decimal k) (start k))) is
     ∙ ap (λ b. cond b (move_with (decimal k) (start k) ∷ []) []) own
 
-pub alone : (size k : ℕ) → k < size → form_of k ≡ Move → IsAlone (all_moves size) (decimal k) (start k)
-alone size k within is =
+pub move-alone : (size k : ℕ) → k < size → form_of k ≡ Move → IsAlone (all_moves size) (decimal k) (start k)
+move-alone size k within is =
     let at = start k in
     record {
       from_begins = only_move (is_of_pair (start_at at)) size k (start_at at) within is (omega arith) (omega arith)

@@ -9,7 +9,7 @@ use Rattle.redl_reading.specs.Steps.{◌>>=◌}
 use Rattle.redl_reading.proofs.Runs.{stops, front_again, after_again}
 use Rattle.redl_reading.proofs.Words.{behind_again}
 use Rattle.redl_stamp.specs.Moment.{is_decimal, digit_at, two_digits_at, four_digits_at, marked_digits_at, seconds_to, date_at, time_at, behind_digits, behind_fraction, offset_in, ahead, back, zone_in, first_moment, last_moment, IsMoment, within_years, moment_of}
-use Rattle.redl_sound.specs.Form.{Writes, NamesDay, NamesTime, IsFraction, nothing, dotted, NamesOffset, NamesZone, none, utc, east, west, Names}
+use Rattle.redl_sound.specs.Form.{WritesNumber, NamesDay, NamesTime, IsFraction, nothing, dotted, NamesOffset, NamesZone, none, utc, east, west, Names}
 use Rattle.redl_sound.proofs.Stamps.Taken.{both_of, hundreds, from_day, from_month, from_year, from_second, from_minute, from_hour, from_minutes, from_hours, from_zone, from_fraction, from_time, from_rest, from_date}
 
 -- ---- digits
@@ -22,7 +22,7 @@ two-of a b rest d e =
     ap (λ o. o >>= (λ tens. digit_at tens.1 >>= both_of tens)) (digit-again a (b ∷ rest) d)
     ∙ ap (λ o. o >>= both_of (a - 48, b ∷ rest)) (digit-again b rest e)
 
-two-again : (text : List ℕ) (number : ℕ) (rest : List ℕ) → Writes 2 text number → two_digits_at (text ++ rest) ≡ Some (number, rest)
+two-again : (text : List ℕ) (number : ℕ) (rest : List ℕ) → WritesNumber 2 text number → two_digits_at (text ++ rest) ≡ Some (number, rest)
 two-again [] number rest w = absurd (omega (arith, w.size))
 two-again (a ∷ []) number rest w = absurd (omega (arith, w.size))
 two-again (a ∷ b ∷ c ∷ more) number rest w = absurd (omega (arith, w.size))
@@ -32,7 +32,7 @@ two-again (a ∷ b ∷ []) number rest w =
     let value : (a - 48) * 10 + (b - 48) ≡ number = omega (arith, w.value) in
     two-of a b rest first.0 second.0 ∙ ap (λ n. Some (n, rest)) value
 
-four-again : (text : List ℕ) (number : ℕ) (rest : List ℕ) → Writes 4 text number → four_digits_at (text ++ rest) ≡ Some (number, rest)
+four-again : (text : List ℕ) (number : ℕ) (rest : List ℕ) → WritesNumber 4 text number → four_digits_at (text ++ rest) ≡ Some (number, rest)
 four-again [] number rest w = absurd (omega (arith, w.size))
 four-again (a ∷ []) number rest w = absurd (omega (arith, w.size))
 four-again (a ∷ b ∷ []) number rest w = absurd (omega (arith, w.size))
@@ -48,7 +48,7 @@ four-again (a ∷ b ∷ c ∷ d ∷ []) number rest w =
     ∙ ap (λ o. o >>= hundreds ((a - 48) * 10 + (b - 48), c ∷ d ∷ rest)) (two-of c d rest third.0 fourth.0)
     ∙ ap (λ n. Some (n, rest)) value
 
-marked-again : (mark text : List ℕ) (number : ℕ) (rest : List ℕ) → Writes 2 text number → marked_digits_at mark (mark ++ (text ++ rest)) ≡ Some (number, rest)
+marked-again : (mark text : List ℕ) (number : ℕ) (rest : List ℕ) → WritesNumber 2 text number → marked_digits_at mark (mark ++ (text ++ rest)) ≡ Some (number, rest)
 marked-again mark text number rest w = ap (λ o. o >>= two_digits_at) (behind_again mark (text ++ rest)) ∙ two-again text number rest w
 
 -- five texts and a rest

@@ -12,7 +12,7 @@ use Rattle.redl_reading.proofs.Runs.{front-after, front_passes}
 use Rattle.redl_reading.proofs.Steps.{bind_some}
 use Rattle.redl_reading.proofs.Words.{behind_takes}
 use Rattle.redl_stamp.specs.Moment.{is_decimal, digit_at, two_digits_at, four_digits_at, marked_digits_at, is_date, seconds_to, date_at, is_time, time_at, behind_digits, behind_fraction, is_at_end, offset_in, ahead, back, zone_in, first_moment, last_moment, is_moment, IsMoment, within_years, moment_of}
-use Rattle.redl_sound.specs.Form.{Writes, NamesDay, NamesTime, IsFraction, nothing, dotted, NamesOffset, NamesZone, none, utc, east, west, Names}
+use Rattle.redl_sound.specs.Form.{WritesNumber, NamesDay, NamesTime, IsFraction, nothing, dotted, NamesOffset, NamesZone, none, utc, east, west, Names}
 
 -- ---- digits
 
@@ -60,7 +60,7 @@ two-taken bs x e =
       value = sym (ap (λ (y : ℕ × List ℕ). y.0) is) ∙ ap (λ n. n * 10 + second.0.0) tens.value ∙ ap (λ n. (tens.digit - 48) * 10 + n) ones.value;
     }
 
-two-writes : (bs : List ℕ) (x : ℕ × List ℕ) (two : Two bs x) → Writes 2 (two.a ∷ two.b ∷ []) x.0
+two-writes : (bs : List ℕ) (x : ℕ × List ℕ) (two : Two bs x) → WritesNumber 2 (two.a ∷ two.b ∷ []) x.0
 two-writes bs x two = record {
   size = refl;
   digits = and_from (is_decimal two.a) (is_decimal two.b && true) two.a_digit (and_from (is_decimal two.b) true two.b_digit refl);
@@ -71,7 +71,7 @@ two-writes bs x two = record {
 record Four (bs : List ℕ) (x : ℕ × List ℕ) : Type 0 where
   pub text : List ℕ
   pub splits : bs ≡ text ++ x.1
-  pub writes : Writes 4 text x.0
+  pub writes : WritesNumber 4 text x.0
 
 abbrev pub hundreds : ℕ × List ℕ → ℕ × List ℕ → Option (ℕ × List ℕ)
 hundreds high low = Some (high.0 * 100 + low.0, low.1)

@@ -13,7 +13,7 @@ use Rattle.redl_stays_sound.specs.Staying.{HasKept, HasTag, is_cut_props, stands
 use Rattle.redl_tree.proofs.Roles.Fits.{Fits, OpenKind, content, marker, open_fits, open_∷, plain, true_false}
 use Rattle.redl_tree.proofs.Roles.Named.{by_name, by_trace}
 use Rattle.redl_tree.specs.Decisions.Fates.{fate, fate_of, renamed, say_of, trace_fate}
-use Rattle.redl_tree.specs.Decisions.Groups.{Piece, para, thick, thin}
+use Rattle.redl_tree.specs.Decisions.Groups.{GroupPiece, para, thick, thin}
 use Rattle.redl_tree.specs.Decisions.Packages.{is_plain}
 use Rattle.redl_tree.specs.Decisions.Pass.{by_fate, element_pass, is_block_para, kept_kids, pass, pieces}
 use Rattle.redl_tree.specs.Decisions.Tables.{goes_at, para_is_cut}
@@ -144,7 +144,7 @@ module _ (says : List Say) (t : Tag) where
   inner-has above nodes (inr h) = h.has
 
   -- what the pieces of a list have, where this element of it is kept, or holds one that is
-  abbrev pub Has : List Element → Tag → List Piece → Type 0
+  abbrev pub Has : List Element → Tag → List GroupPiece → Type 0
   Has above own ps =
       ((is_block_para says (tags_of above) own ≡ true) × PiecesHave t ps)
       ⊎ (((is_content own.kind ≡ true) × PiecesHaveIf is_beside t ps)
@@ -249,7 +249,7 @@ module _ (says : List Say) (t : Tag) where
       at false false e l true later = later
       at false false e l false later = later
 
-  ifs-have : (ps : List Piece) → PiecesHaveIf is_beside t ps → PiecesHave t ps
+  ifs-have : (ps : List GroupPiece) → PiecesHaveIf is_beside t ps → PiecesHave t ps
   ifs-have [] h = h
   ifs-have (para own cut kids ∷ ps) h = inr (ifs-have ps h)
   ifs-have (thin nodes ∷ ps) (inl h) = inl h

@@ -5,7 +5,7 @@ use Rattle.redl_laws.proofs.Survival.Stories.{AreLoud}
 use Rattle.redl_stays_sound.specs.Staying.{HasTag}
 use Rattle.redl_tree.proofs.Decisions.PassLaws.{Takes, takes-next}
 use Rattle.redl_tree.proofs.Roles.Named.{by_name}
-use Rattle.redl_tree.specs.Decisions.Groups.{Piece, given, grouped_from, has_thick, held_by, joined_kids, joined_tag, para, paragraph_next, taken, thick, thin, unjoined_para}
+use Rattle.redl_tree.specs.Decisions.Groups.{GroupPiece, given, grouped_from, has_thick, held_by, joined_kids, joined_tag, para, paragraph_next, taken, thick, thin, unjoined_para}
 use Rattle.redl_tree.specs.Model.Kids.{has_element, only, without}
 use Rattle.redl_tree.specs.Model.Nodes.{Nodes, Tag, bytes, element, no_nodes, ◌⊕◌}
 use Rattle.redl_tree.specs.Roles.Names.{is}
@@ -102,12 +102,12 @@ has-split tag (element own kids rest) (inr h) = at (is "pPr" own) (has-split tag
 -- ---- pieces
 
 -- a paragraph that is cut has it beside its properties
-abbrev pub PieceHas : Tag → Piece → Type 0
+abbrev pub PieceHas : Tag → GroupPiece → Type 0
 PieceHas tag (para own cut kids) = HasBeside tag kids ⊎ ((cut ≡ false) × HasTag tag kids)
 PieceHas tag (thin nodes) = HasBeside tag nodes
 PieceHas tag (thick nodes) = HasBeside tag nodes
 
-abbrev pub PiecesHave : Tag → List Piece → Type 0
+abbrev pub PiecesHave : Tag → List GroupPiece → Type 0
 PiecesHave tag [] = ⊥
 PiecesHave tag (p ∷ ps) = PieceHas tag p ⊎ PiecesHave tag ps
 
@@ -161,7 +161,7 @@ taken-beside tag (Some held) nodes h = if-right is_beside tag held (without (is 
 
 -- ---- one piece, given what is held
 
-abbrev Goes : Tag → Piece → Option Nodes → Bool → Bool → Type 0
+abbrev Goes : Tag → GroupPiece → Option Nodes → Bool → Bool → Type 0
 Goes tag p held joined followed = HasBeside tag (given p held joined followed) ⊎ HeldHas tag (held_by p held joined)
 
 joins-cut : (cut : Bool) (next : Bool) → (cut && next) ≡ true → cut ≡ true
@@ -185,7 +185,7 @@ para-goes tag own cut kids held false next followed e loud (inr (inr h)) = inl (
 
 -- ---- a whole list
 
-pub grouped-has : (tag : Tag) (followed : Bool) (held : Option Nodes) (ps : List Piece) → AreLoud ps → Takes held ps → HeldHas tag held ⊎ PiecesHave tag ps
+pub grouped-has : (tag : Tag) (followed : Bool) (held : Option Nodes) (ps : List GroupPiece) → AreLoud ps → Takes held ps → HeldHas tag held ⊎ PiecesHave tag ps
     → HasBeside tag (grouped_from followed held ps)
 grouped-has tag followed None [] loud t (inl h) = absurd h
 grouped-has tag followed None [] loud t (inr h) = absurd h
@@ -224,20 +224,20 @@ grouped-has tag followed None (thick nodes ∷ ps) loud t (inr (inr h)) =
 
 -- ---- a list without paragraphs
 
-abbrev pub NoParas : List Piece → Type 0
+abbrev pub NoParas : List GroupPiece → Type 0
 NoParas [] = Unit {0}
 NoParas (para own cut kids ∷ ps) = ⊥
 NoParas (thin nodes ∷ ps) = NoParas ps
 NoParas (thick nodes ∷ ps) = NoParas ps
 
 -- what each piece gives has it under such a name
-abbrev pub PiecesHaveIf : (Tag → Bool) → Tag → List Piece → Type 0
+abbrev pub PiecesHaveIf : (Tag → Bool) → Tag → List GroupPiece → Type 0
 PiecesHaveIf names tag [] = ⊥
 PiecesHaveIf names tag (para own cut kids ∷ ps) = PiecesHaveIf names tag ps
 PiecesHaveIf names tag (thin nodes ∷ ps) = HasIf names tag nodes ⊎ PiecesHaveIf names tag ps
 PiecesHaveIf names tag (thick nodes ∷ ps) = HasIf names tag nodes ⊎ PiecesHaveIf names tag ps
 
-pub alone-has : (names : Tag → Bool) (tag : Tag) (followed : Bool) (ps : List Piece) → NoParas ps → PiecesHaveIf names tag ps → HasIf names tag (grouped_from followed None ps)
+pub alone-has : (names : Tag → Bool) (tag : Tag) (followed : Bool) (ps : List GroupPiece) → NoParas ps → PiecesHaveIf names tag ps → HasIf names tag (grouped_from followed None ps)
 alone-has names tag followed [] none h = absurd h
 alone-has names tag followed (para own cut kids ∷ ps) none h = absurd none
 alone-has names tag followed (thin nodes ∷ ps) none (inl h) = if-left names tag nodes (grouped_from followed None ps) h

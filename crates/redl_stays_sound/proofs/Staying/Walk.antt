@@ -12,7 +12,7 @@ use Rattle.redl_stays_sound.specs.Kept.{is_kept}
 use Rattle.redl_stays_sound.specs.Staying.{AllKeptStay, HasKept, HasTag, StayIn, tags_of}
 use Rattle.redl_tree.proofs.Decisions.PassLaws.{block_p}
 use Rattle.redl_tree.specs.Decisions.Fates.{fate_of, renamed}
-use Rattle.redl_tree.specs.Decisions.Groups.{Piece, para, thick, thin}
+use Rattle.redl_tree.specs.Decisions.Groups.{GroupPiece, para, thick, thin}
 use Rattle.redl_tree.specs.Decisions.Packages.{stories}
 use Rattle.redl_tree.specs.Decisions.Pass.{element_pass, is_block_para, kept_kids, pass, pieces}
 use Rattle.redl_tree.specs.Decisions.Tables.{para_is_cut}
@@ -33,30 +33,30 @@ third-false false b c e p q = absurd (true≢false (sym p))
 module _ (says : List Say) (t : Tag) where
   -- ---- one piece more
 
-  if-more : (names : Tag → Bool) (x : Piece) (ps : List Piece) → PiecesHaveIf names t ps → PiecesHaveIf names t (x ∷ ps)
+  if-more : (names : Tag → Bool) (x : GroupPiece) (ps : List GroupPiece) → PiecesHaveIf names t ps → PiecesHaveIf names t (x ∷ ps)
   if-more names (para own cut kids) ps h = h
   if-more names (thin nodes) ps h = inr h
   if-more names (thick nodes) ps h = inr h
 
-  has-more : (above : List Element) (own : Tag) (x : Piece) (ps : List Piece) → Has says t above own ps → Has says t above own (x ∷ ps)
+  has-more : (above : List Element) (own : Tag) (x : GroupPiece) (ps : List GroupPiece) → Has says t above own ps → Has says t above own (x ∷ ps)
   has-more above own x ps (inl h) = inl (h.0, inr h.1)
   has-more above own x ps (inr (inl h)) = inr (inl (h.0, if-more is_beside x ps h.1))
   has-more above own x ps (inr (inr h)) = inr (inr (λ names e. if-more names x ps (h names e)))
 
   -- ---- the piece of an element
 
-  abbrev piece_by : Bool → Bool → List Tag → Tag → Nodes → Nodes → Piece
+  abbrev piece_by : Bool → Bool → List Tag → Tag → Nodes → Nodes → GroupPiece
   piece_by is_para heavy old own kids passed =
       if is_para then para (renamed says old own) (para_is_cut says kids) (kept_kids says old own kids passed)
       else if heavy then thick (element_pass says old own kids passed) else thin (element_pass says old own kids passed)
 
-  piece-if : (names : Tag → Bool) (old : List Tag) (own : Tag) (kids passed : Nodes) (ps : List Piece) (p heavy : Bool) → p ≡ false
+  piece-if : (names : Tag → Bool) (old : List Tag) (own : Tag) (kids passed : Nodes) (ps : List GroupPiece) (p heavy : Bool) → p ≡ false
       → HasIf names t (element_pass says old own kids passed) → PiecesHaveIf names t (piece_by p heavy old own kids passed ∷ ps)
   piece-if names old own kids passed ps true heavy e h = absurd (true≢false e)
   piece-if names old own kids passed ps false true e h = inl h
   piece-if names old own kids passed ps false false e h = inl h
 
-  piece-para : (old : List Tag) (own : Tag) (kids passed : Nodes) (ps : List Piece) (p heavy : Bool) → p ≡ true
+  piece-para : (old : List Tag) (own : Tag) (kids passed : Nodes) (ps : List GroupPiece) (p heavy : Bool) → p ≡ true
       → PieceHas t (para (renamed says old own) (para_is_cut says kids) (kept_kids says old own kids passed)) → PiecesHave t (piece_by p heavy old own kids passed ∷ ps)
   piece-para old own kids passed ps true heavy e h = inl h
   piece-para old own kids passed ps false heavy e h = absurd (true≢false (sym e))
@@ -75,7 +75,7 @@ module _ (says : List Say) (t : Tag) where
     abbrev inner_nodes : Nodes
     inner_nodes = pass says (own ∷ tags_of (parent ∷ above)) kids
 
-    abbrev later : List Piece
+    abbrev later : List GroupPiece
     later = pieces says (tags_of (parent ∷ above)) rest
 
     own-path : own ≡ t → is_kept says own ≡ true → OnPath says t (parent ∷ above) (element own kids rest)

@@ -5,7 +5,7 @@ use Rattle.std.proofs.lemmas.Bool.{and_parts, cond-true, cond-false}
 use Rattle.redl_tree.specs.Model.Nodes.{Tag, Nodes, no_nodes, bytes, element, ◌⊕◌}
 use Rattle.redl_tree.specs.Roles.Names.{is}
 use Rattle.redl_tree.specs.Model.Kids.{only, without, has_element}
-use Rattle.redl_tree.specs.Decisions.Groups.{Piece, para, thin, thick, has_thick, joins, taken, joined_tag, joined_kids, unjoined_para, given, held_by, grouped_from, grouped}
+use Rattle.redl_tree.specs.Decisions.Groups.{GroupPiece, para, thin, thick, has_thick, joins, taken, joined_tag, joined_kids, unjoined_para, given, held_by, grouped_from, grouped}
 use Rattle.redl_tree.specs.Decisions.Beside.{bytes_beside, bytes_of_each, are_named}
 use Rattle.redl_tree.proofs.Roles.Named.{by_name}
 use Rattle.redl_tree.proofs.Decisions.PassLaws.{Takes, takes-next}
@@ -66,7 +66,7 @@ named_joined : (held : Option Nodes) (tag : Tag) → is "p" tag ≡ true → is 
 named_joined None tag q = q
 named_joined (Some held) tag q = q
 
-beside-given : (p : Piece) (held : Option Nodes) (joins followed : Bool) (ps : List Piece) → are_named (p ∷ []) ≡ true → Takes held (p ∷ ps) →
+beside-given : (p : GroupPiece) (held : Option Nodes) (joins followed : Bool) (ps : List GroupPiece) → are_named (p ∷ []) ≡ true → Takes held (p ∷ ps) →
     bytes_beside (given p held joins followed) ++ beside_held (held_by p held joins) ≡ beside_held held ++ bytes_of_each (p ∷ [])
 beside-given (para tag cut kids) held true followed ps l t = beside-taken held kids ∙ ap (λ ts. beside_held held ++ ts) (sym (append-nil (bytes_beside kids)))
 beside-given (para tag cut kids) held false followed ps l t =
@@ -78,17 +78,17 @@ beside-given (thin nodes) (Some held) joins followed ps l t = beside-taken (Some
 beside-given (thick nodes) None joins followed ps l t = refl
 beside-given (thick nodes) (Some held) joins followed ps l t = absurd (true≢false (sym t))
 
-each-∷ : (p : Piece) (ps : List Piece) → bytes_of_each (p ∷ []) ++ bytes_of_each ps ≡ bytes_of_each (p ∷ ps)
+each-∷ : (p : GroupPiece) (ps : List GroupPiece) → bytes_of_each (p ∷ []) ++ bytes_of_each ps ≡ bytes_of_each (p ∷ ps)
 each-∷ (para tag cut kids) ps = ap (λ ts. ts ++ bytes_of_each ps) (append-nil (bytes_beside kids))
 each-∷ (thin nodes) ps = ap (λ ts. ts ++ bytes_of_each ps) (append-nil (bytes_beside nodes))
 each-∷ (thick nodes) ps = ap (λ ts. ts ++ bytes_of_each ps) (append-nil (bytes_beside nodes))
 
-named-∷ : (p : Piece) (ps : List Piece) → are_named (p ∷ ps) ≡ true → (are_named (p ∷ []) ≡ true) × (are_named ps ≡ true)
+named-∷ : (p : GroupPiece) (ps : List GroupPiece) → are_named (p ∷ ps) ≡ true → (are_named (p ∷ []) ≡ true) × (are_named ps ≡ true)
 named-∷ (para tag cut kids) ps e = let a = and_parts (is "p" tag) (are_named ps) e in (rw a.0 refl, a.1)
 named-∷ (thin nodes) ps e = (refl, e)
 named-∷ (thick nodes) ps e = (refl, e)
 
-beside-from : (followed : Bool) (held : Option Nodes) (ps : List Piece) → are_named ps ≡ true → Takes held ps →
+beside-from : (followed : Bool) (held : Option Nodes) (ps : List GroupPiece) → are_named ps ≡ true → Takes held ps →
     bytes_beside (grouped_from followed held ps) ≡ beside_held held ++ bytes_of_each ps
 beside-from followed None [] l t = refl
 beside-from followed (Some held) [] l t = absurd (true≢false (sym t))
@@ -104,5 +104,5 @@ beside-from followed held (p ∷ ps) l t =
     ∙ ap (λ ts. beside_held held ++ ts) (each-∷ p ps)
 
 -- joining paragraphs keeps all bytes that stand beside their properties, in their order
-pub beside-grouped : (followed : Bool) (ps : List Piece) → are_named ps ≡ true → bytes_beside (grouped followed ps) ≡ bytes_of_each ps
+pub beside-grouped : (followed : Bool) (ps : List GroupPiece) → are_named ps ≡ true → bytes_beside (grouped followed ps) ≡ bytes_of_each ps
 beside-grouped followed ps l = beside-from followed None ps l tt

@@ -10,7 +10,7 @@ use Rattle.redl_tree.specs.Roles.Lists.{in_blocks, is_thick}
 use Rattle.redl_tree.specs.Decisions.Fates.{fate_of, renamed}
 use Rattle.redl_tree.specs.Roles.Kinds.{is_content, is_leave}
 use Rattle.redl_tree.specs.Decisions.Tables.{goes_at, para_is_cut}
-use Rattle.redl_tree.specs.Decisions.Groups.{Piece, para, thin, thick, paragraph_next, has_thick, joins, given, held_by, grouped_from, grouped}
+use Rattle.redl_tree.specs.Decisions.Groups.{GroupPiece, para, thin, thick, paragraph_next, has_thick, joins, given, held_by, grouped_from, grouped}
 use Rattle.redl_tree.specs.Decisions.Pass.{by_fate, kept_kids, element_pass, is_block_para, piece, pieces, pass}
 use Rattle.redl_tree.specs.declared.kinds.Say.{Say}
 use Rattle.redl_tree.specs.declared.kinds.Fate.{Fate}
@@ -44,7 +44,7 @@ pub block_p : (says : List Say) (ancestors : List Tag) (tag : Tag) → is_block_
 block_p says ancestors tag e = (and_parts (is "p" tag) (in_blocks ancestors) (and_parts (is "p" tag && in_blocks ancestors) (is_leave (fate_of says tag)) e).0).0
 
 -- what a node of a list gives by itself
-abbrev pub alone : Piece → Nodes
+abbrev pub alone : GroupPiece → Nodes
 alone (para tag cut kids) = element tag kids no_nodes
 alone (thin nodes) = nodes
 alone (thick nodes) = nodes
@@ -63,7 +63,7 @@ alone-piece says ancestors tag kids passed =
     (element_pass says ancestors tag kids passed) (para_pass says ancestors tag kids passed)
 
 -- what the nodes of a list give, each by itself
-abbrev pub all_alone : List Piece → Nodes
+abbrev pub all_alone : List GroupPiece → Nodes
 all_alone [] = no_nodes
 all_alone (p ∷ ps) = alone p ⊕ all_alone ps
 
@@ -81,7 +81,7 @@ all_alone-each says ancestors (element tag kids rest) =
     ap (λ n. n ⊕ all_alone (pieces says ancestors rest)) (alone-piece says ancestors tag kids (pass says (tag ∷ ancestors) kids))
     ∙ ap (λ n. element_pass says ancestors tag kids (pass says (tag ∷ ancestors) kids) ⊕ n) (all_alone-each says ancestors rest)
 
-step_apart : (followed p heavy cut : Bool) (tag : Tag) (kids n : Nodes) (ps : List Piece) → (p && cut) ≡ false → (p ≡ true → n ≡ element tag kids no_nodes) →
+step_apart : (followed p heavy cut : Bool) (tag : Tag) (kids n : Nodes) (ps : List GroupPiece) → (p && cut) ≡ false → (p ≡ true → n ≡ element tag kids no_nodes) →
     grouped_from followed None ((if p then para tag cut kids else if heavy then thick n else thin n) ∷ ps) ≡ n ⊕ grouped_from followed None ps
 step_apart followed true heavy true tag kids n ps e h = absurd (true≢false e)
 step_apart followed true heavy false tag kids n ps e h = ap (λ x. x ⊕ grouped_from followed None ps) (sym (h refl))
@@ -127,12 +127,12 @@ without-⊕ test (element tag kids rest) ys = at (test tag) (without-⊕ test re
 -- Lists that are put together from the left.
 
 -- what is held is taken up by a paragraph of the list
-abbrev pub Takes : Option Nodes → List Piece → Type 0
+abbrev pub Takes : Option Nodes → List GroupPiece → Type 0
 Takes None ps = Unit {0}
 Takes (Some held) ps = paragraph_next ps ≡ true
 
 -- where what is held is taken up by a paragraph of the list, so is what is held after its first node
-pub takes-next : (p : Piece) (held : Option Nodes) (ps : List Piece) → Takes held (p ∷ ps) → Takes (held_by p held (joins p ps)) ps
+pub takes-next : (p : GroupPiece) (held : Option Nodes) (ps : List GroupPiece) → Takes held (p ∷ ps) → Takes (held_by p held (joins p ps)) ps
 takes-next (para tag cut kids) held ps t = at cut (paragraph_next ps) refl
   where
     at : (c n : Bool) → paragraph_next ps ≡ n → Takes (held_by (para tag c kids) held (c && n)) ps
@@ -144,13 +144,13 @@ takes-next (thin nodes) (Some held) ps t = t
 takes-next (thick nodes) held ps t = tt
 
 -- the last thick node of the list is a paragraph that is cut
-abbrev pub ends_cut : List Piece → Bool
+abbrev pub ends_cut : List GroupPiece → Bool
 ends_cut [] = false
 ends_cut (para tag cut kids ∷ ps) = if has_thick ps then ends_cut ps else cut
 ends_cut (thin nodes ∷ ps) = ends_cut ps
 ends_cut (thick nodes ∷ ps) = ends_cut ps
 
-pub thick-append : (xs ys : List Piece) → has_thick (xs ++ ys) ≡ (has_thick xs || has_thick ys)
+pub thick-append : (xs ys : List GroupPiece) → has_thick (xs ++ ys) ≡ (has_thick xs || has_thick ys)
 thick-append [] ys = refl
 thick-append (para tag cut kids ∷ xs) ys = refl
 thick-append (thin nodes ∷ xs) ys = thick-append xs ys
@@ -161,26 +161,26 @@ next_of true mine other = mine
 next_of false mine other = other
 
 -- where no node is thick there is no next paragraph
-pub next-thick : (xs : List Piece) → has_thick xs ≡ false → paragraph_next xs ≡ false
+pub next-thick : (xs : List GroupPiece) → has_thick xs ≡ false → paragraph_next xs ≡ false
 next-thick [] e = refl
 next-thick (para tag cut kids ∷ xs) e = absurd (true≢false e)
 next-thick (thin nodes ∷ xs) e = next-thick xs e
 next-thick (thick nodes ∷ xs) e = refl
 
-pub next-append : (xs ys : List Piece) → has_thick xs ≡ true → paragraph_next (xs ++ ys) ≡ paragraph_next xs
+pub next-append : (xs ys : List GroupPiece) → has_thick xs ≡ true → paragraph_next (xs ++ ys) ≡ paragraph_next xs
 next-append [] ys e = absurd (true≢false (sym e))
 next-append (para tag cut kids ∷ xs) ys e = refl
 next-append (thin nodes ∷ xs) ys e = next-append xs ys e
 next-append (thick nodes ∷ xs) ys e = refl
 
-pub next-thin : (xs ys : List Piece) → has_thick xs ≡ false → paragraph_next (xs ++ ys) ≡ paragraph_next ys
+pub next-thin : (xs ys : List GroupPiece) → has_thick xs ≡ false → paragraph_next (xs ++ ys) ≡ paragraph_next ys
 next-thin [] ys e = refl
 next-thin (para tag cut kids ∷ xs) ys e = absurd (true≢false e)
 next-thin (thin nodes ∷ xs) ys e = next-thin xs ys e
 next-thin (thick nodes ∷ xs) ys e = absurd (true≢false e)
 
 -- in front of a list that it doesn't join, a node joins as without it
-joins-append : (p : Piece) (xs ys : List Piece) → (ends_cut (p ∷ xs) && paragraph_next ys) ≡ false → joins p (xs ++ ys) ≡ joins p xs
+joins-append : (p : GroupPiece) (xs ys : List GroupPiece) → (ends_cut (p ∷ xs) && paragraph_next ys) ≡ false → joins p (xs ++ ys) ≡ joins p xs
 joins-append (para tag cut kids) xs ys e = at (has_thick xs) refl e
   where
     at : (t : Bool) → has_thick xs ≡ t → ((if t then ends_cut xs else cut) && paragraph_next ys) ≡ false → (cut && paragraph_next (xs ++ ys)) ≡ (cut && paragraph_next xs)
@@ -189,10 +189,10 @@ joins-append (para tag cut kids) xs ys e = at (has_thick xs) refl e
 joins-append (thin nodes) xs ys e = refl
 joins-append (thick nodes) xs ys e = refl
 
-ends-rest : (p : Piece) (xs : List Piece) (n : Bool) → (ends_cut (p ∷ xs) && n) ≡ false → (ends_cut xs && n) ≡ false
+ends-rest : (p : GroupPiece) (xs : List GroupPiece) (n : Bool) → (ends_cut (p ∷ xs) && n) ≡ false → (ends_cut xs && n) ≡ false
 ends-rest (para tag cut kids) xs n e = at (has_thick xs) refl e
   where
-    none_cut : (xs : List Piece) → has_thick xs ≡ false → ends_cut xs ≡ false
+    none_cut : (xs : List GroupPiece) → has_thick xs ≡ false → ends_cut xs ≡ false
     none_cut [] e = refl
     none_cut (para tag cut kids ∷ xs) e = absurd (true≢false e)
     none_cut (thin nodes ∷ xs) e = none_cut xs e
@@ -206,7 +206,7 @@ ends-rest (thick nodes) xs n e = e
 
 -- a list may be cut in two where no paragraph of the first side is joined with one of the second: each side is put together by
 -- itself
-pub grouped_from-append : (followed : Bool) (xs ys : List Piece) (held : Option Nodes) → (ends_cut xs && paragraph_next ys) ≡ false → Takes held xs →
+pub grouped_from-append : (followed : Bool) (xs ys : List GroupPiece) (held : Option Nodes) → (ends_cut xs && paragraph_next ys) ≡ false → Takes held xs →
     grouped_from followed held (xs ++ ys) ≡ grouped_from (has_thick ys || followed) held xs ⊕ grouped_from followed None ys
 grouped_from-append followed [] ys None e t = refl
 grouped_from-append followed [] ys (Some held) e t = absurd (true≢false (sym t))
@@ -221,7 +221,7 @@ grouped_from-append followed (p ∷ xs) ys held e t =
     ∙ sym (⊕_assoc here (grouped_from (has_thick ys || followed) later xs) (grouped_from followed None ys))
 
 -- two lists that no joined paragraphs reach across are put together each by itself
-pub grouped-append : (followed : Bool) (xs ys : List Piece) → (ends_cut xs && paragraph_next ys) ≡ false →
+pub grouped-append : (followed : Bool) (xs ys : List GroupPiece) → (ends_cut xs && paragraph_next ys) ≡ false →
     grouped followed (xs ++ ys) ≡ grouped (has_thick ys || followed) xs ⊕ grouped followed ys
 grouped-append followed xs ys e = grouped_from-append followed xs ys None e tt
 

@@ -8,7 +8,7 @@ use Rattle.redl_tree.specs.Roles.Kinds.{is_leave}
 use Rattle.redl_tree.specs.Decisions.Fates.{fate_of, live_name, renamed, is_revived}
 use Rattle.redl_tree.specs.Decisions.Restored.{rejected}
 use Rattle.redl_tree.specs.Decisions.Tables.{goes_at, para_is_cut}
-use Rattle.redl_tree.specs.Decisions.Groups.{Piece, para, thin, thick, grouped}
+use Rattle.redl_tree.specs.Decisions.Groups.{GroupPiece, para, thin, thick, grouped}
 use Rattle.redl_tree.specs.Decisions.Pass.{kept_kids, element_pass, piece, pieces, pass}
 use Rattle.redl_tree.specs.declared.kinds.Say.{Say}
 use Rattle.redl_tree.proofs.Idle.Tags.{Idle, idle_parts, has-not}
@@ -53,8 +53,8 @@ pass_idle says ancestors in_run no_nodes h = refl
 pass_idle says ancestors in_run (bytes b rest) h = ap (bytes b) (pass_idle says ancestors in_run rest h)
 pass_idle says ancestors in_run (element tag kids rest) h =
     let p = idle_parts in_run tag kids rest h in
-    let later : List Piece = pieces says ancestors rest in
+    let later : List GroupPiece = pieces says ancestors rest in
     ap (λ (k : Nodes). grouped false (piece says ancestors tag kids k ∷ later)) (pass_idle says (tag ∷ ancestors) (is "r" tag) kids p.below)
-    ∙ ap (λ (x : Piece). grouped false (x ∷ later)) (thin_piece says ancestors in_run tag kids kids p.own)
+    ∙ ap (λ (x : GroupPiece). grouped false (x ∷ later)) (thin_piece says ancestors in_run tag kids kids p.own)
     ∙ ap (λ (n : Nodes). grouped false (thin n ∷ later)) (one_pass says ancestors in_run tag kids p.own p.below)
     ∙ ap (element tag kids) (pass_idle says ancestors in_run rest p.later)

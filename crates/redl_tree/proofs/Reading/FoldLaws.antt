@@ -13,7 +13,7 @@ use Rattle.redl_tree.specs.declared.kinds.Space.TheVariants.{W}
 use Rattle.redl_tree.specs.declared.kinds.Kind.{Kind}
 use Rattle.redl_tree.specs.declared.kinds.Kind.TheVariants.{Plain}
 use Rattle.redl_tree.proofs.Model.Laws.{⊕-no_nodes, ⊕_assoc}
-use Rattle.redl_grammar.specs.declared.place.Place.TheVariants.{InElement}
+use Rattle.redl_grammar.specs.declared.section.Section.TheVariants.{InElement}
 use Rattle.redl_reading.specs.Lists.{is_other}
 use Rattle.redl_reading.specs.Steps.{or_same, turns}
 use Rattle.redl_reading.proofs.Turns.{enough}

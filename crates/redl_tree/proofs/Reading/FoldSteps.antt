@@ -1,7 +1,7 @@
 -- The turns in which a text of one space is read.
 use Rattle.std.proofs.Common.{◌≡◌, ℕ, List, [], ◌∷◌, ◌<◌, length, Option, Some, None, refl, ap, ◌∙◌, arith}
 use Rattle.redl_tree.specs.declared.kinds.Space.{Space}
-use Rattle.redl_grammar.specs.declared.place.Place.TheVariants.{InElement}
+use Rattle.redl_grammar.specs.declared.section.Section.TheVariants.{InElement}
 use Rattle.redl_reading.specs.Steps.{done, next}
 use Rattle.redl_grammar.specs.Pieces.{Piece}
 use Rattle.redl_grammar.specs.ScanPieces.{piece_at}

@@ -9,27 +9,27 @@ use Rattle.redl_tree.specs.Model.Nodes.{Empty, End}
 
 -- what a node of a list gives by itself: a paragraph among blocks, with its tag, whether it is cut, and its passed kids; or
 -- the nodes that another thin or thick node gives, which may be none
-pub data Piece : Type 0 where
-  para : Tag → Bool → Nodes → Piece
-  thin : Nodes → Piece
-  thick : Nodes → Piece
+pub data GroupPiece : Type 0 where
+  para : Tag → Bool → Nodes → GroupPiece
+  thin : Nodes → GroupPiece
+  thick : Nodes → GroupPiece
 
 -- The next thick node is a paragraph. A node counts as what it was in the original, also where it goes.
-abbrev pub paragraph_next : List Piece → Bool
+abbrev pub paragraph_next : List GroupPiece → Bool
 paragraph_next [] = false
 paragraph_next (para tag cut kids ∷ rest) = true
 paragraph_next (thin nodes ∷ rest) = paragraph_next rest
 paragraph_next (thick nodes ∷ rest) = false
 
 -- one of these is thick
-abbrev pub has_thick : List Piece → Bool
+abbrev pub has_thick : List GroupPiece → Bool
 has_thick [] = false
 has_thick (para tag cut kids ∷ rest) = true
 has_thick (thin nodes ∷ rest) = has_thick rest
 has_thick (thick nodes ∷ rest) = true
 
 -- a paragraph that is cut is joined with the next thick node, where that is a paragraph
-abbrev pub joins : Piece → List Piece → Bool
+abbrev pub joins : GroupPiece → List GroupPiece → Bool
 joins (para tag cut kids) rest = cut && paragraph_next rest
 joins (thin nodes) rest = false
 joins (thick nodes) rest = false
@@ -65,7 +65,7 @@ unjoined_para ends tag kids =
 
 -- what a piece adds to the result, given what it takes up, whether it is joined with a later paragraph, and whether a thick
 -- node follows
-abbrev pub given : Piece → Option Nodes → Bool → Bool → Nodes
+abbrev pub given : GroupPiece → Option Nodes → Bool → Bool → Nodes
 given (para tag cut kids) held true followed = no_nodes
 given (para tag cut kids) held false followed = unjoined_para (cut && followed) (joined_tag held tag) (joined_kids held kids)
 given (thin nodes) None joins followed = nodes
@@ -73,7 +73,7 @@ given (thin nodes) (Some held) joins followed = no_nodes
 given (thick nodes) held joins followed = nodes
 
 -- what the next paragraph takes up after a piece
-abbrev pub held_by : Piece → Option Nodes → Bool → Option Nodes
+abbrev pub held_by : GroupPiece → Option Nodes → Bool → Option Nodes
 held_by (para tag cut kids) held true = Some (taken held kids)
 held_by (para tag cut kids) held false = None
 held_by (thin nodes) None joins = None
@@ -82,12 +82,12 @@ held_by (thick nodes) held joins = None
 
 -- What the pieces of a list give together, where the next paragraph takes up `held`. `followed`: a thick node comes after
 -- the list, and that is no paragraph where the last paragraph of the list is cut.
-abbrev pub grouped_from : Bool → Option Nodes → List Piece → Nodes
+abbrev pub grouped_from : Bool → Option Nodes → List GroupPiece → Nodes
 grouped_from followed held [] = no_nodes
 grouped_from followed held (piece ∷ rest) =
     given piece held (joins piece rest) (has_thick rest || followed)
     ⊕ grouped_from followed (held_by piece held (joins piece rest)) rest
 
 -- the same where nothing is held before the list
-abbrev pub grouped : Bool → List Piece → Nodes
+abbrev pub grouped : Bool → List GroupPiece → Nodes
 grouped followed pieces = grouped_from followed None pieces

@@ -10,7 +10,7 @@ use Rattle.redl_tree.specs.Decisions.Fates.{fate_of, renamed}
 use Rattle.redl_tree.specs.Roles.Kinds.{is_content, is_leave}
 use Rattle.redl_tree.specs.Decisions.Restored.{rejected, after_change}
 use Rattle.redl_tree.specs.Decisions.Tables.{goes_at, para_is_cut}
-use Rattle.redl_tree.specs.Decisions.Groups.{Piece, para, thin, thick, grouped}
+use Rattle.redl_tree.specs.Decisions.Groups.{GroupPiece, para, thin, thick, grouped}
 use Rattle.redl_tree.specs.declared.kinds.Say.{Say}
 use Rattle.redl_tree.specs.declared.kinds.Fate.{Fate}
 use Rattle.redl_tree.specs.declared.kinds.Fate.TheVariants.{Leave, Free}
@@ -39,7 +39,7 @@ abbrev pub is_block_para : List Say → List Tag → Tag → Bool
 is_block_para says ancestors tag = is "p" tag && in_blocks ancestors && is_leave (fate_of says tag)
 
 -- what an element gives to its list: a paragraph that may be joined, or thick or thin nodes
-abbrev pub piece : List Say → List Tag → Tag → Nodes → Nodes → Piece
+abbrev pub piece : List Say → List Tag → Tag → Nodes → Nodes → GroupPiece
 piece says ancestors tag kids passed =
     if is_block_para says ancestors tag
     then para (renamed says ancestors tag) (para_is_cut says kids) (kept_kids says ancestors tag kids passed)
@@ -47,7 +47,7 @@ piece says ancestors tag kids passed =
     else thin (element_pass says ancestors tag kids passed)
 
 -- what each node of a list with these ancestors gives
-abbrev pub pieces : List Say → List Tag → Nodes → List Piece
+abbrev pub pieces : List Say → List Tag → Nodes → List GroupPiece
 pieces says ancestors no_nodes = []
 pieces says ancestors (bytes b rest) = thin (bytes b no_nodes) ∷ pieces says ancestors rest
 pieces says ancestors (element tag kids rest) =

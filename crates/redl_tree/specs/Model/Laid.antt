@@ -3,7 +3,7 @@ use Rattle.std.specs.Prelude.{◌≡◌, ℕ, Bool, true, false, List}
 use Rattle.redl_tree.specs.Model.Nodes.{Tag, Nodes, no_nodes, bytes, element, Close, Empty, End}
 use Rattle.redl_tree.specs.declared.kinds.Space.{Space}
 use Rattle.redl_tree.specs.declared.kinds.Kind.TheVariants.{Plain}
-use Rattle.redl_grammar.specs.declared.place.Place.TheVariants.{InElement}
+use Rattle.redl_grammar.specs.declared.section.Section.TheVariants.{InElement}
 use Rattle.redl_grammar.specs.Names.{Name, IsName}
 use Rattle.redl_grammar.specs.Tails.{IsSpace, IsTail}
 use Rattle.redl_grammar.specs.Stretches.{IsStretch, ends_stretch}

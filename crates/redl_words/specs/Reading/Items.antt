@@ -100,12 +100,12 @@ locking_option word =
     else None
 
 -- the option that a word is, besides those for locks
-abbrev pub own_option : Form → List ℕ → Option ItemOption
-own_option forms.List word = if bytes_eq word (codes "--format") then Some options.Format else if bytes_eq word (codes "--only") then Some options.Only else None
-own_option forms.Report word = reporting_option word
-own_option forms.Page word = paging_option word
-own_option forms.Write word = None
-own_option forms.Decide word = deciding_option word
+abbrev pub option_of_form : Form → List ℕ → Option ItemOption
+option_of_form forms.List word = if bytes_eq word (codes "--format") then Some options.Format else if bytes_eq word (codes "--only") then Some options.Only else None
+option_of_form forms.Report word = reporting_option word
+option_of_form forms.Page word = paging_option word
+option_of_form forms.Write word = None
+option_of_form forms.Decide word = deciding_option word
 
 -- the option of a lock, or else another one
 abbrev pub lock_or : Option ItemOption → Option Locked → Option ItemOption
@@ -114,7 +114,7 @@ lock_or other (Some on) = Some (options.Lock on)
 
 -- the option that a word is
 unfoldable pub option_in : Form → List ℕ → Option ItemOption
-option_in form word = lock_or (own_option form word) (locking_option word)
+option_in form word = lock_or (option_of_form form word) (locking_option word)
 
 -- with a format, where there is none so far
 abbrev pub with_format : List ℕ → Option (List ℕ) → Gathered → Option Gathered

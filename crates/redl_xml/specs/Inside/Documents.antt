@@ -2,8 +2,8 @@
 use Rattle.std.specs.Prelude.{ℕ, List, [], ◌∷◌, Option, Some, None, if◌then◌else◌}
 use Rattle.std.specs.Option.{option_map}
 use Rattle.redl_tree.specs.Model.Nodes.{Nodes, no_nodes, bytes, ◌⊕◌}
-use Rattle.redl_grammar.specs.declared.place.Place.{Place}
-use Rattle.redl_grammar.specs.declared.place.Place.TheVariants.{BeforeRoot, AfterRoot}
+use Rattle.redl_grammar.specs.declared.section.Section.{Section}
+use Rattle.redl_grammar.specs.declared.section.Section.TheVariants.{BeforeRoot, AfterRoot}
 use Rattle.redl_reading.specs.Lists.{is_filled}
 use Rattle.redl_reading.specs.Steps.{◌>>=◌}
 use Rattle.redl_grammar.specs.Pieces.{Piece, start_tag, empty_tag, end_tag, stretch}
@@ -21,7 +21,7 @@ stretch_or_none bs (Some x) = by_piece x.0 where
   by_piece (end_tag name space) = ([], bs)
 
 -- the leading stretch of this place, which may be empty, and what follows it
-unfoldable pub stretch_in : Place → List ℕ → List ℕ × List ℕ
+unfoldable pub stretch_in : Section → List ℕ → List ℕ × List ℕ
 stretch_in place bs = stretch_or_none bs (piece_at place bs)
 
 -- the bytes as a bytes node, if there are any

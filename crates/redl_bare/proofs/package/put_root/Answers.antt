@@ -4,7 +4,7 @@ use Rattle.redl_tree.specs.Model.View.{tag_of, kids_of}
 use Rattle.redl_bare.specs.Units.{root_units, units_in}
 use Rattle.redl_bare.specs.Inside.Views.{marks_view}
 use Rattle.redl_bare.specs.Inside.Items.{element_units}
-use Rattle.redl_bare.specs.declared.place.Place.TheVariants.{Open}
+use Rattle.redl_bare.specs.declared.place.BarePlace.TheVariants.{Open}
 use Rattle.redl_bare.proofs.LineLaws.{units_then, units_fail}
 use Rattle.redl_bare.proofs.package.put_root.Goals as goal
 

@@ -3,7 +3,7 @@ use Rattle.std.proofs.Common.{◌≡◌, ◌∙◌, ◌++◌, [], length, append
 use Rattle.redl_idle.specs.Takes.{Takes}
 use Rattle.redl_idle.proofs.TakeLaws.{takes_then, takes_fails, takes_as}
 use Rattle.redl_idle.specs.Shows.{shows}
-use Rattle.redl_grammar.specs.declared.place.Place.TheVariants.{InElement}
+use Rattle.redl_grammar.specs.declared.section.Section.TheVariants.{InElement}
 use Rattle.redl_markup.specs.declared.bare.BarePiece as bare
 use Rattle.redl_markup.specs.PieceViews.{bare_view}
 use Rattle.redl_grammar.specs.ScanPieces.{piece_at}

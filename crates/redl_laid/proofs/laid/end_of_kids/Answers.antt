@@ -1,5 +1,5 @@
 use Rattle.std.proofs.Common.{◌≡◌, ◌∙◌, ap, sym, true≢false, arith, None}
-use Rattle.redl_grammar.specs.declared.place.Place.TheVariants.{InElement}
+use Rattle.redl_grammar.specs.declared.section.Section.TheVariants.{InElement}
 use Rattle.redl_markup.specs.PieceViews.{bare_view}
 use Rattle.redl_grammar.specs.References.{is_there}
 use Rattle.redl_grammar.proofs.Pieces.{piece_shorter}

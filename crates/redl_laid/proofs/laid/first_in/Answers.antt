@@ -1,6 +1,6 @@
 -- The first node of a kept text and what comes after it. It is long because a node is a text, an empty tag, or a tag with kids.
 use Rattle.std.proofs.Common.{◌∙◌, ℕ, ap, sym, refl, true≢false, List, [], length, arith}
-use Rattle.redl_grammar.specs.declared.place.Place.TheVariants.{InElement}
+use Rattle.redl_grammar.specs.declared.section.Section.TheVariants.{InElement}
 use Rattle.redl_markup.specs.PieceViews.{bare_view}
 use Rattle.redl_markup.specs.Views.{name_view}
 use Rattle.redl_grammar.specs.Pieces.{start_tag, empty_tag, end_tag, stretch}

@@ -10,8 +10,8 @@ use Rattle.redl_tree.specs.Model.View.{tag_of}
 use Rattle.redl_leaves.specs.View.{container_view, tally_of, container_of, states_of}
 use Rattle.redl_leaves.proofs.mending.+mend.Goals as goal
 
-pub mend_at-returns-then-at-slots : goal.mend_at-returns-then-at-slots
-mend_at-returns-then-at-slots t c = λ parent above spot_is has.
+pub recount_along-returns-then-at-slots : goal.recount_along-returns-then-at-slots
+recount_along-returns-then-at-slots t c = λ parent above spot_is has.
     let ancestors = parent ∷ above in
     let way = c.args.way.now in
     let slots = c.args.slots.now in
@@ -23,35 +23,35 @@ mend_at-returns-then-at-slots t c = λ parent above spot_is has.
     let made = c.mend_in.ensures parent above spot_is (mend-numbers ancestors way slots x c.in-len1-up.len_at_least within x_is has) in
     mend-here ancestors way slots x c.mend_in.new.slot c.mend_in.result c.in-len1-up.len_at_least within x_is (rw whole at made)
 
-pub mend_at-returns-in-empty : goal.mend_at-returns-in-empty
-mend_at-returns-in-empty t c = λ parent above spot_is has. record {
+pub recount_along-returns-in-empty : goal.recount_along-returns-in-empty
+recount_along-returns-in-empty t c = λ parent above spot_is has. record {
   states = mend-end (parent ∷ above) c.args.way.now (states_of c.args.slots.now) c.in-empty.len_below;
   living = omega (arith, c.nothing.ensures.before, c.nothing.ensures.after);
   within = omega (arith, c.nothing.ensures.before);
 }
 
-pub mend_at-returns-else-at-slots : goal.mend_at-returns-else-at-slots
-mend_at-returns-else-at-slots t c = λ parent above spot_is has. record {
+pub recount_along-returns-else-at-slots : goal.recount_along-returns-else-at-slots
+recount_along-returns-else-at-slots t c = λ parent above spot_is has. record {
   states = mend-beyond (parent ∷ above) c.args.way.now c.args.slots.now c.in-len1-up.len_at_least (omega (arith, c.if-at-slots.false));
   living = omega (arith, c.nothing-in-len1-up.ensures.before, c.nothing-in-len1-up.ensures.after);
   within = omega (arith, c.nothing-in-len1-up.ensures.before);
 }
 
-pub mend_container-returns : goal.mend_container-returns
-mend_container-returns t c = λ parent above spot_is has.
+pub recount_container-returns : goal.recount_container-returns
+recount_container-returns t c = λ parent above spot_is has.
     let ancestors = parent ∷ above in
     let way = c.args.way.now in
     let old = c.args.container.now in
     let tag = tag_of old.elem in
     let tally = tally_of old.tally in
     let inner = states_of old.slots.items in
-    let slots = c.mend_at-shift.new.slots in
+    let slots = c.recount_along-shift.new.slots in
     let new = states_of slots in
-    let shift = c.mend_at-shift.result in
+    let shift = c.recount_along-shift.result in
     let result = c.counted-container.result in
     let fields : container_of old ≡ container_view tag tally inner = container_of-fields old in
     let numbers : HasNumbersIn ancestors (container_view tag tally inner) = subst (HasNumbersIn ancestors) fields has in
-    let mends = rw c.deref_mut.ensures.value at c.mend_at-shift.ensures in
+    let mends = rw c.deref_mut.ensures.value at c.recount_along-shift.ensures in
     let m : Mends (tag ∷ ancestors) way inner new shift = mends tag ancestors (c.inside-inside.ensures parent above spot_is) numbers.2 in
     let later = retallied (tag ∷ ancestors) way inner in
     let few : states_living (tag ∷ ancestors) new ≤ 2 ^ 32 - 1 =
@@ -73,7 +73,7 @@ mend_container-returns t c = λ parent above spot_is has.
     same-tally result.cut old.tally.cut result.owned old.tally.owned result.living (states_living (tag ∷ ancestors) new) result.gone _
     c.counted-container.ensures.cut c.counted-container.ensures.owned (c.counted-container.ensures.living ∙ living) gone in
     let items : take old.slots.len (slots ++ drop (length slots) old.slots.items) ≡ slots =
-    take_at slots _ _ (omega (arith, c.mend_at-shift.auto.slots, c.deref_mut.ensures.len)) in
+    take_at slots _ _ (omega (arith, c.recount_along-shift.auto.slots, c.deref_mut.ensures.len)) in
     record {
       slot = container_of-made _
           ∙ ap (λ xs. container_view tag (tally_of result) (states_of xs)) items

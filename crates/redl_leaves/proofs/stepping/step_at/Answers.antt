@@ -18,5 +18,5 @@ returns c = λ parent above spot_is tallied made.
     let numbers = numbers-tallied ancestors (remade says way old) (tallied-remade says ancestors way old tallied) in
     let has : HasNumbers ancestors (states_of c.recut_at.new.slots) =
     subst (λ (s : States). HasNumbers ancestors s) (sym cut) (numbers-recut says ancestors way (remade says way old) numbers) in
-    let mends = c.mend_at.ensures parent above spot_is has in
+    let mends = c.recount_along.ensures parent above spot_is has in
     mends.states ∙ ap (retallied ancestors way) cut ∙ mended-recut says ancestors way (remade says way old) numbers ∙ mended-remade says ancestors way old

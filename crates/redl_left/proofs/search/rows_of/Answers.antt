@@ -4,7 +4,7 @@ use Rattle.std.proofs.lemmas.List.{drop_more}
 use Rattle.redl_left.specs.Search.{may_ask}
 use Rattle.redl_left.specs.declared.fact.Fact.TheVariants.{Ins}
 use Rattle.redl_left.specs.declared.name.Name.TheVariants.{NumberingChange}
-use Rattle.redl_left.specs.declared.row.Place.TheVariants.{Word}
+use Rattle.redl_left.specs.declared.row.Where.TheVariants.{Word}
 use Rattle.redl_left.specs.declared.row.When.TheVariants.{Always}
 use Rattle.redl_left.specs.declared.row.Value.TheVariants.{Nothing}
 use Rattle.redl_left.specs.declared.row.Row.{Row}

@@ -6,7 +6,7 @@ use Rattle.redl_opc.proofs.WalkLaws.{parts-end}
 use Rattle.redl_shown.specs.Shown.{shown}
 use Rattle.redl_page_stories.specs.Document.{sections, section_at, is_first_after}
 use Rattle.redl_html.specs.Pieces.{pieces_text}
-use Rattle.redl_page_stories.proofs.NodeLaws.{sections-part}
+use Rattle.redl_page_stories.proofs.NodeLaws.{sections-step}
 use Rattle.redl_page_stories.proofs.sections.put_document.Goals as goal
 
 pub returns-in_err-first : goal.returns-in_err-first
@@ -16,7 +16,7 @@ returns-in_err-first g c =
     let within : part < length (parts_of pkg) = omega (arith, c.parts-part-end.ensures.value) in
     so_far_stops (pieces_text (section_at shown c.args.index.now pkg c.loop-part.first part))
     (pieces_text (sections shown c.args.index.now (is_first_after c.loop-part.first (story pkg part)) (drop (part + 1) (parts_of pkg))))
-    (sections-part shown c.args.index.now c.loop-part.first pkg part within)
+    (sections-step shown c.args.index.now c.loop-part.first pkg part within)
     c.from_residual.ensures.1 c.loop-part.invariant c.in_err-first.ensures.puts
 
 pub loop-part-preserved : goal.loop-part-preserved
@@ -26,7 +26,7 @@ loop-part-preserved g c =
     let within : part < length (parts_of pkg) = omega (arith, c.parts-part-end.ensures.value) in
     so_far_goes_on (pieces_text (section_at shown c.args.index.now pkg c.loop-part.first part))
     (pieces_text (sections shown c.args.index.now c.in_ok-first.first (drop (part + 1) (parts_of pkg))))
-    (sections-part shown c.args.index.now c.loop-part.first pkg part within
+    (sections-step shown c.args.index.now c.loop-part.first pkg part within
     ∙ ap (λ f. pieces_text (section_at shown c.args.index.now pkg c.loop-part.first part) ++ pieces_text (sections shown c.args.index.now f (drop (part + 1) (parts_of pkg)))) (sym c.in_ok-first.ensures.first))
     c.loop-part.invariant c.in_ok-first.ensures.puts
 

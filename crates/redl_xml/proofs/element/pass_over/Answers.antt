@@ -19,6 +19,6 @@ returns-clause-ahead c =
       adds = adds;
       deep = omega (arith, c.add_nodes.ensures.deepest, depth);
       many = c.add_nodes.ensures.nodes;
-      alike = c.keep_within.ensures.rest;
-      kept = c.keep_within.ensures.kept;
+      alike = c.drop_past_limits.ensures.rest;
+      kept = c.drop_past_limits.ensures.kept;
     })

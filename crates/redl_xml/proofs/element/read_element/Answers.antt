@@ -2,7 +2,7 @@
 use Rattle.std.proofs.Common.{◌≡◌, ◌≢◌, ◌≤◌, ◌+◌, ◌∙◌, ap, refl, subst, sym, ℕ, Some, Err, length, arith}
 use Rattle.std.proofs.lemmas.Result.{err_from_is_err_and}
 use Rattle.redl_markup.specs.declared.error.MarkupError.{MarkupError}
-use Rattle.redl_grammar.specs.declared.place.Place.TheVariants.{InElement}
+use Rattle.redl_grammar.specs.declared.section.Section.TheVariants.{InElement}
 use Rattle.redl_markup.specs.PieceViews.{piece_view}
 use Rattle.redl_grammar.specs.Pieces.{Piece}
 use Rattle.redl_grammar.proofs.Pieces.{piece_shorter}
@@ -54,9 +54,9 @@ returns-then-is_empty-clause-sizes c =
     let sizes = c.pass_over.new.sizes in
     let ahead = c.in_ok-ahead.ahead.rest.now in
     let here = reading_ahead c.args.limits c.args.bytes.now l.rest.now ahead (building_view l.building) (building_view b0) l.sizes sizes l.invariant c.in_ok-ahead.ensures.ahead in
-    let b = c.keep_within.new.self in
+    let b = c.drop_past_limits.new.self in
     let len : c.len.result ≡ length b0.open.items = omega (arith, c.len.ensures, b0.open.ok.0) in
-    let turn = turned c.args.limits (piece_view c.in_ok-piece.piece) b0 c.place.new.self b sizes c.add_piece.new.self c.len.result len c.in_ok-place.ensures.ok (record { deepest = c.add_piece.ensures.deepest; nodes = c.add_piece.ensures.nodes }) c.keep_within.ensures.rest c.keep_within.ensures.kept in
+    let turn = turned c.args.limits (piece_view c.in_ok-piece.piece) b0 c.place.new.self b sizes c.add_piece.new.self c.len.result len c.in_ok-place.ensures.ok (record { deepest = c.add_piece.ensures.deepest; nodes = c.add_piece.ensures.nodes }) c.drop_past_limits.ensures.rest c.drop_past_limits.ensures.kept in
     let none : length (building_view b).open_elements ≡ 0 = grind (arith, c.is_empty.ensures, c.if-is_empty.true, b.open.ok.0, length-open b.open.items b.before.items) in
     (reading_ends c.args.limits ahead (piece_view c.in_ok-piece.piece, c.in_ok-piece.next.now) (building_view b0) (building_view b) sizes c.add_piece.new.self c.args.bytes.now here c.in_ok-piece.ensures turn none).0
 
@@ -67,9 +67,9 @@ returns-then-is_empty-clause-nodes c =
     let sizes = c.pass_over.new.sizes in
     let ahead = c.in_ok-ahead.ahead.rest.now in
     let here = reading_ahead c.args.limits c.args.bytes.now l.rest.now ahead (building_view l.building) (building_view b0) l.sizes sizes l.invariant c.in_ok-ahead.ensures.ahead in
-    let b = c.keep_within.new.self in
+    let b = c.drop_past_limits.new.self in
     let len : c.len.result ≡ length b0.open.items = omega (arith, c.len.ensures, b0.open.ok.0) in
-    let turn = turned c.args.limits (piece_view c.in_ok-piece.piece) b0 c.place.new.self b sizes c.add_piece.new.self c.len.result len c.in_ok-place.ensures.ok (record { deepest = c.add_piece.ensures.deepest; nodes = c.add_piece.ensures.nodes }) c.keep_within.ensures.rest c.keep_within.ensures.kept in
+    let turn = turned c.args.limits (piece_view c.in_ok-piece.piece) b0 c.place.new.self b sizes c.add_piece.new.self c.len.result len c.in_ok-place.ensures.ok (record { deepest = c.add_piece.ensures.deepest; nodes = c.add_piece.ensures.nodes }) c.drop_past_limits.ensures.rest c.drop_past_limits.ensures.kept in
     let none : length (building_view b).open_elements ≡ 0 = grind (arith, c.is_empty.ensures, c.if-is_empty.true, b.open.ok.0, length-open b.open.items b.before.items) in
     (reading_ends c.args.limits ahead (piece_view c.in_ok-piece.piece, c.in_ok-piece.next.now) (building_view b0) (building_view b) sizes c.add_piece.new.self c.args.bytes.now here c.in_ok-piece.ensures turn none).1
 
@@ -86,8 +86,8 @@ loop-tries-preserved c =
     let sizes = c.pass_over.new.sizes in
     let ahead = c.in_ok-ahead.ahead.rest.now in
     let here = reading_ahead c.args.limits c.args.bytes.now l.rest.now ahead (building_view l.building) (building_view b0) l.sizes sizes l.invariant c.in_ok-ahead.ensures.ahead in
-    let b = c.keep_within.new.self in
+    let b = c.drop_past_limits.new.self in
     let len : c.len.result ≡ length b0.open.items = omega (arith, c.len.ensures, b0.open.ok.0) in
-    let turn = turned c.args.limits (piece_view c.in_ok-piece.piece) b0 c.place.new.self b sizes c.add_piece.new.self c.len.result len c.in_ok-place.ensures.ok (record { deepest = c.add_piece.ensures.deepest; nodes = c.add_piece.ensures.nodes }) c.keep_within.ensures.rest c.keep_within.ensures.kept in
+    let turn = turned c.args.limits (piece_view c.in_ok-piece.piece) b0 c.place.new.self b sizes c.add_piece.new.self c.len.result len c.in_ok-place.ensures.ok (record { deepest = c.add_piece.ensures.deepest; nodes = c.add_piece.ensures.nodes }) c.drop_past_limits.ensures.rest c.drop_past_limits.ensures.kept in
     let some : length (building_view b).open_elements ≢ 0 = grind (arith, c.is_empty.ensures, c.if-is_empty.false, b.open.ok.0, length-open b.open.items b.before.items) in
     reading_goes c.args.limits ahead (piece_view c.in_ok-piece.piece, c.in_ok-piece.next.now) (building_view b0) (building_view b) sizes c.add_piece.new.self c.args.bytes.now here c.in_ok-piece.ensures turn some

@@ -1,6 +1,6 @@
 use Rattle.std.proofs.Common.{◌≡◌, ◌+◌, ◌∙◌, refl, sym, subst, length, arith, List, Some}
 use Rattle.redl_markup.specs.declared.name.Name as code
-use Rattle.redl_grammar.specs.declared.place.Place.TheVariants.{InElement}
+use Rattle.redl_grammar.specs.declared.section.Section.TheVariants.{InElement}
 use Rattle.redl_markup.specs.PieceViews.{piece_view}
 use Rattle.redl_grammar.specs.ScanPieces.{piece_at}
 use Rattle.redl_grammar.proofs.Pieces.{piece_shorter}

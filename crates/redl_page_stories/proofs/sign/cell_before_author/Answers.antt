@@ -1,5 +1,5 @@
 use Rattle.std.proofs.Common.{refl}
-use Rattle.redl_page_stories.proofs.sign.mark_after.Goals as goal
+use Rattle.redl_page_stories.proofs.sign.cell_before_author.Goals as goal
 
 pub returns-in-Ins : goal.returns-in-Ins
 returns-in-Ins c = rw c.in-Ins.is refl

@@ -10,27 +10,27 @@ const MOST: usize = 4096;
 
 /// Passes all bytes on to another sink, and remembers the first 4,096 of them.
 #[derive(Drop)]
-pub struct Told<K> {
+pub struct FirstBytes<K> {
     sink: K,
-    first: Vec<u8>,
+    bytes: Vec<u8>,
 }
 
-impl<K: Sink> Told<K> {
+impl<K: Sink> FirstBytes<K> {
     /// A sink before this one, which remembers nothing yet. It takes no memory.
-    pub fn new(alloc: Global, sink: K) -> Told<K> {
-        Told {
+    pub fn new(alloc: Global, sink: K) -> FirstBytes<K> {
+        FirstBytes {
             sink,
-            first: Vec::new(alloc),
+            bytes: Vec::new(alloc),
         }
     }
 
     /// The first bytes that it was given.
-    pub fn first(&self) -> &[u8] {
-        &self.first
+    pub fn bytes(&self) -> &[u8] {
+        &self.bytes
     }
 }
 
-impl<K: Sink> Sink for Told<K> {
+impl<K: Sink> Sink for FirstBytes<K> {
     ghost told = { λ told. K.told told.sink };
 
     ghost faults = { λ told. K.faults told.sink };
@@ -42,9 +42,9 @@ impl<K: Sink> Sink for Told<K> {
     ghost settled_within = { λ told. K.settled_within told.sink };
 
     fn put(&mut self, bytes: &[u8]) -> Result<(), Failed> {
-        let room = MOST.saturating_sub(self.first.len()).min(bytes.len());
+        let room = MOST.saturating_sub(self.bytes.len()).min(bytes.len());
         // What is remembered serves hints alone, so it may be less where memory runs out.
-        let _ = self.first.extend_from_slice(&bytes[..room]);
+        let _ = self.bytes.extend_from_slice(&bytes[..room]);
         self.sink.put(bytes)
     }
 }

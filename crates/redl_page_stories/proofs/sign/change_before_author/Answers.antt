@@ -1,5 +1,5 @@
 use Rattle.std.proofs.Common.{refl}
-use Rattle.redl_page_stories.proofs.sign.change_after.Goals as goal
+use Rattle.redl_page_stories.proofs.sign.change_before_author.Goals as goal
 
 pub returns-in-Run : goal.returns-in-Run
 returns-in-Run c = rw c.in-Run.is refl

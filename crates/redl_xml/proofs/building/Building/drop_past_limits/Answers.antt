@@ -5,7 +5,7 @@ use Rattle.redl_tree.specs.declared.node.Node.{Node}
 use Rattle.redl_xml.specs.Inside.Elements.{Frame, bare}
 use Rattle.redl_xml.specs.Inside.Buildings.{frames}
 use Rattle.redl_xml.proofs.Buildings.{state, frames-bare}
-use Rattle.redl_xml.proofs.building.Building.keep_within.Goals as goal
+use Rattle.redl_xml.proofs.building.Building.drop_past_limits.Goals as goal
 
 pub returns-then-not-are_within-clause-rest : goal.returns-then-not-are_within-clause-rest
 returns-then-not-are_within-clause-rest c =

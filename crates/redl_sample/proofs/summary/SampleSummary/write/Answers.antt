@@ -1,6 +1,6 @@
 use Rattle.std.proofs.Common.{refl}
 use Rattle.redl_io.proofs.Puts.{puts_then, puts_fails}
-use Rattle.redl_sample.proofs.summary.Summary.write.Goals as goal
+use Rattle.redl_sample.proofs.summary.SampleSummary.write.Goals as goal
 
 pub returns-in_err-write_number : goal.returns-in_err-write_number
 returns-in_err-write_number g c = puts_fails _ refl c.from_residual.ensures.1 c.in_err-write_number.ensures
