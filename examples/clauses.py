@@ -1,9 +1,11 @@
-"""A second writer of clause numbers, as docs/DEFINITIONS.md tells them (ECMA-376 Part 1, 17.9).
+"""The clause of each revision: the number that a word processor shows before its paragraph (ECMA-376 Part 1, 17.9).
 
     python3 clauses.py PACKAGE                 each revision with its kind and the number of its clause
     python3 clauses.py PACKAGE paragraphs      the number of each paragraph of the document, or an empty line
 
-It shares no code with the program. It looks at each thing anew as often as it needs it, so it is slow and short.
+A revision in a paragraph without a number has `before` and the last number before it, or None. Changes are counted as a reader sees
+them while they are shown: inserted and deleted paragraphs too. It shares no code with the program, in which no listing has a clause so
+far. It looks at each thing anew as often as it needs it, so it is slow and short.
 """
 import re
 import sys

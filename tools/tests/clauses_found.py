@@ -139,6 +139,7 @@ MEMBERS = [
     ("in a paragraph", para(props(1, 0)).replace("</w:p>", INS + "</w:p>"), "", ["1."]),
     ("of a mark and of properties", para(props(1, 0), mark="<w:rPr><w:ins %s/></w:rPr>" % WHO) + para(props(1, 1), mark="<w:pPrChange %s><w:pPr/></w:pPrChange>" % WHO), "", ["1.", "1.1"]),
     ("after a number", paras(0) + "<w:p>%s</w:p>" % INS, "", ["before 1."]),
+    ("two paragraphs after a number", paras(0) + para() + "<w:p>%s</w:p>" % INS, "", ["before 1."]),
     ("before all numbers", "<w:p>%s</w:p>" % INS + paras(0), "", [None]),
     ("of a row", paras(0) + "<w:tbl>%s</w:tbl>" % (ROW % (WHO, paras(1), paras(1))), "", ["1.1"]),
     ("of a row whose first paragraph has none", paras(0) + "<w:tbl>%s</w:tbl>" % (ROW % (WHO, para(), paras(1))), "", ["before 1."]),
