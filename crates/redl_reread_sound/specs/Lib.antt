@@ -1,2 +1,4 @@
 pub mod Together
+pub mod Each
 pub mod Scopes
+pub mod Again
