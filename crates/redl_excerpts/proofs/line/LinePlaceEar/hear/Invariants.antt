@@ -1,6 +1,6 @@
 use Rattle.std.proofs.Common.{◌≡◌, drop}
 use Rattle.redl_excerpts.specs.Lines.{along}
-use Rattle.redl_excerpts.proofs.line.PlaceEar.hear.Given as goal
+use Rattle.redl_excerpts.proofs.line.LinePlaceEar.hear.Given as goal
 
 -- the bytes that are left are heard after those so far
 abbrev pub invariant-loop-byte : goal.invariant-loop-byte

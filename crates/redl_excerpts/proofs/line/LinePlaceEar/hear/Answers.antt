@@ -1,6 +1,6 @@
 use Rattle.std.proofs.Common.{ℕ, ap, sym, ◌∙◌}
 use Rattle.redl_excerpts.proofs.EvenLaws.{along-even}
-use Rattle.redl_excerpts.proofs.line.PlaceEar.hear.Goals as goal
+use Rattle.redl_excerpts.proofs.line.LinePlaceEar.hear.Goals as goal
 
 -- all bytes are kept as they are
 pub returns-in-Some : goal.returns-in-Some
