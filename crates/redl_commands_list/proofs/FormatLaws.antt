@@ -6,8 +6,7 @@ use Rattle.std.specs.Option.{option_map}
 use Rattle.std.specs.Str.{bytes_eq}
 use Rattle.redl_lines.proofs.CauseLaws.{by_cause}
 use Rattle.redl_inputs.specs.Admission.{Admission}
-use Rattle.redl_commands_shown.specs.List.{listing, listing_named, part_names, session_details, session_rows, session_verdicts}
-use Rattle.redl_commands_shown.specs.Shown.{shown_revisions}
+use Rattle.redl_commands_shown.specs.List.{listing, listing_named, part_names, session_details, session_rows, session_shown, session_verdicts}
 use Rattle.redl_commands.specs.Endings.{Finishes}
 use Rattle.redl_commands_shown.specs.Formats.{Format, LeavesFormats, format_named, formats_by, found_format, whether}
 use Rattle.redl_inputs.specs.Reading.{Reads}
@@ -118,7 +117,7 @@ listed_same {others = others} {verdicts = verdicts} text_of first found made par
 pub reads_listing : {F : Type 0} (name_of : F → List ℕ) (text_of : F → List Row → Bool → List ℕ) (name : List ℕ) (wanted : List Only) (admission : Admission) (formats : List F)
     (parts : List (List ℕ)) (revisions : List Revision) (verdicts : List Verdict) (details : List Detail) (shown : List Bool) (found : Bool) (made : List ℕ)
     → parts ≡ part_names admission.state.nodes → revisions ≡ admission.state.revisions → verdicts ≡ session_verdicts admission.state
-    → details ≡ session_details name admission.state → shown ≡ shown_revisions wanted revisions verdicts
+    → details ≡ session_details name wanted admission.state → shown ≡ session_shown wanted admission.state
     → whether (format_named (formats_by name_of text_of formats) name) ≡ Ok tt
     → IsListed (first_named name_of name formats) (λ format. text_of format (shown_rows shown (told_rows parts revisions verdicts details)) true) found made
     → Reads (Ok (made_by admission made)) (λ reader. listing_named (formats_by name_of text_of formats) name wanted admission)

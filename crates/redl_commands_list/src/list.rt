@@ -1,14 +1,13 @@
 //! `list P` with a format, journals and locks, of all revisions or of those alone that are wanted.
 
-ghost use Rattle.std.specs.Prelude.{◌≡◌, ◌⊎◌, ◌<◌, Bool, true, length, slice_get, Ok, Some, All, IsUtf8, IfOk, OnErr, OnOk};
-ghost use Rattle.redl_commands_shown.specs.List.{listed, listing_named, part_names, session_details, session_verdicts, shows_details};
-ghost use Rattle.redl_commands_shown.specs.Shown.{shown_revisions};
+ghost use Rattle.std.specs.Prelude.{◌≡◌, ◌⊎◌, ◌<◌, Bool, true, [], length, slice_get, Ok, Some, All, IsUtf8, IfOk, OnErr, OnOk, if◌then◌else◌};
+ghost use Rattle.redl_commands_shown.specs.List.{listed, listing_named, part_names, session_details, session_shown, session_verdicts, shows_details};
 ghost use Rattle.redl_commands_shown.specs.Formats.{AreFresh, LeavesFormats, format_named, formats_by, whether};
 ghost use Rattle.redl_inputs.specs.Reading.{ReadsFiles, Reads};
 ghost use Rattle.redl_commands.specs.Views.{writing_view};
 ghost use Rattle.redl_inputs.specs.Views.{admission_view, result_view};
 ghost use Rattle.redl_commands.specs.Writing.{outcome_of};
-ghost use Rattle.redl_excerpts.specs.Details.{IsDetail};
+ghost use Rattle.redl_excerpts.specs.Details.{IsDetail, package_details};
 ghost use Rattle.redl_formats.specs.Formats.{IsListed, first_named, without_named};
 ghost use Rattle.redl_listing.specs.Rows.{shown_rows, told_rows};
 ghost use Rattle.redl_opc.specs.Shape.{parts_of};
@@ -105,34 +104,44 @@ fn list_revisions<'a, 'b>(
         remarks,
         ..
     } = admitted;
-    let told = told_of(alloc, name, session)?;
-    let made = make_listing(alloc, name, only, parts, told, formats)?;
+    let told = told_of(alloc, name, only, session)?;
+    let made = make_listing(alloc, name, parts, told, formats)?;
     Ok(Writing {
         output: Output::Listing(made),
         remarks,
     })
 }
 
-// What a listing tells of a session: its revisions, the verdicts on them, and their details where the format shows them.
+// What a listing tells of a session: its revisions, the verdicts on them, which of them are shown, and the details of these where
+// the format shows details.
 #[derive(Drop)]
 struct ListedSession {
     index: Index,
     verdicts: Vec<Verdict>,
+    shown: Vec<bool>,
     details: Vec<Detail>,
 }
 
 // The same for the format with this name. The nodes go before the rows come, so that they aren't in memory together.
-fn told_of(alloc: Global, name: &str, session: Session) -> Result<ListedSession, AllocError>
+fn told_of(
+    alloc: Global,
+    name: &str,
+    only: &[Only],
+    session: Session,
+) -> Result<ListedSession, AllocError>
     ensures index { IfOk result (λ told. told.index ≡ session.entry.revisions) }
     ensures verdicts { IfOk result (λ told. told.verdicts.items ≡ session_verdicts session.entry) }
-    ensures details { IfOk result (λ told. told.details.items ≡ session_details name.now session.entry) }
+    ensures shown { IfOk result (λ told. told.shown.items ≡ session_shown (onlys_view only.now) session.entry) }
+    ensures details { IfOk result (λ told. told.details.items ≡ session_details name.now (onlys_view only.now) session.entry) }
     ensures utf8 { IfOk result (λ told. All IsDetail told.details.items) }
 {
     let verdicts = session.verdicts()?;
-    let details = session_details(alloc, name, &session)?;
+    let shown = shown_revisions(alloc, only, session.index().revisions(), &verdicts)?;
+    let details = details_of(alloc, name, &session, &shown)?;
     Ok(ListedSession {
         index: session.into_index(),
         verdicts,
+        shown,
         details,
     })
 }
@@ -141,7 +150,6 @@ fn told_of(alloc: Global, name: &str, session: Session) -> Result<ListedSession,
 fn make_listing(
     alloc: Global,
     name: &str,
-    only: &[Only],
     parts: &[Text],
     told: ListedSession,
     formats: &mut Vec<Box<dyn RowFormat>>,
@@ -152,7 +160,7 @@ fn make_listing(
     requires details { All IsDetail told.details.items }
     requires fresh { AreFresh is_closed rows_so_far formats.old.items }
     ensures made { IfOk result (λ made. (found : Bool) × IsListed (first_named format_name name.now formats.old.items)
-        (λ format. text_for format (shown_rows (shown_revisions (onlys_view only.now) told.index told.verdicts.items) (told_rows parts.now told.index told.verdicts.items told.details.items)) true)
+        (λ format. text_for format (shown_rows told.shown.items (told_rows parts.now told.index told.verdicts.items told.details.items)) true)
         found made.items) }
     ensures taken { OnOk result (formats.new.items ≡ without_named format_name name.now formats.old.items) }
     ensures left { OnErr result ((formats.new.items ≡ formats.old.items) ⊎ (formats.new.items ≡ without_named format_name name.now formats.old.items)) }
@@ -160,9 +168,9 @@ fn make_listing(
     let ListedSession {
         index,
         verdicts,
+        shown,
         details,
     } = told;
-    let shown = shown_revisions(alloc, only, index.revisions(), &verdicts)?;
     let mut made = Vec::new(alloc);
     let _ = list_told(
         alloc, formats, name, parts, &index, &verdicts, details, &shown, &mut made,
@@ -170,15 +178,27 @@ fn make_listing(
     Ok(made)
 }
 
-// The details of a session's revisions, where the format with this name shows them. The nodes are needed for them.
-fn session_details(alloc: Global, name: &str, session: &Session) -> Result<Vec<Detail>, AllocError>
-    ensures value { IfOk result (λ details. details.items ≡ session_details name.now session.now) }
+// The details of the revisions of a session that are shown, where the format with this name shows details. The nodes are needed for
+// them.
+fn details_of(
+    alloc: Global,
+    name: &str,
+    session: &Session,
+    shown: &[bool],
+) -> Result<Vec<Detail>, AllocError>
+    ensures value { IfOk result (λ details. details.items ≡ if shows_details name.now then package_details session.now.nodes session.now.revisions shown.now session.now.book else []) }
     ensures utf8 { IfOk result (λ details. All IsDetail details.items) }
 {
     if !shows_details(name) {
         return Ok(Vec::new(alloc));
     }
-    let details = package_details(alloc, session.package(), session.index(), session.book())?;
+    let details = package_details(
+        alloc,
+        session.package(),
+        session.index(),
+        shown,
+        session.book(),
+    )?;
     Ok(details)
 }
 

@@ -1,8 +1,8 @@
 -- What a page shows, where its parts are the same.
 use Rattle.std.proofs.Common.{◌≡◌, ◌∙◌, Bool, List, length, ℕ}
 use Rattle.std.proofs.lemmas.List.{length-map}
-use Rattle.redl_excerpts.specs.Excerpts.{excerpt_of, excerpts_of}
-use Rattle.redl_excerpts.specs.Properties.{changed_lines, changed_words}
+use Rattle.redl_excerpts.specs.Excerpts.{excerpts_of, wanted_excerpt}
+use Rattle.redl_excerpts.specs.Properties.{changed_lines, changed_words, changes_among}
 use Rattle.redl_index.specs.declared.revision.Revision.{Revision}
 use Rattle.redl_journal.specs.declared.entry.Entry.{Entry}
 use Rattle.redl_page.specs.Page.{Heading, Shown}
@@ -19,4 +19,5 @@ same_shown nodes other revisions others locked flags said lines book more digest
 
 -- each revision has a line
 pub changed_lines-length : (nodes : Nodes) (revisions : List Revision) → length (changed_lines nodes revisions) ≡ length revisions
-changed_lines-length nodes revisions = length-map (excerpts_of nodes revisions) changed_words ∙ length-map revisions (excerpt_of nodes)
+changed_lines-length nodes revisions =
+    length-map (excerpts_of nodes revisions (changes_among revisions)) changed_words ∙ length-map revisions (wanted_excerpt nodes (changes_among revisions))

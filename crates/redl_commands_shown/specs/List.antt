@@ -29,20 +29,24 @@ part_names nodes = map (λ part. name_in part.tag) (parts_of nodes)
 abbrev pub shows_details : List ℕ → Bool
 shows_details name = bytes_eq name (codes "words") || bytes_eq name (codes "full")
 
--- the details of a session's revisions, where the format shows them
-abbrev pub session_details : List ℕ → SessionState → List Detail
-session_details name state = if shows_details name then package_details state.nodes state.revisions state.book else []
-
 -- the verdicts of a session's book
 abbrev pub session_verdicts : SessionState → List Verdict
 session_verdicts state = verdicts_of state.book (length state.revisions)
 
--- a row for each revision of a session's package that each of what is wanted shows, with the verdict of the session's book, for the
--- format with this name
+-- which of a session's revisions each of what is wanted shows
+abbrev pub session_shown : List Only → SessionState → List Bool
+session_shown wanted state = shown_revisions wanted state.revisions (session_verdicts state)
+
+-- the details of those that are shown, where the format shows details
+abbrev pub session_details : List ℕ → List Only → SessionState → List Detail
+session_details name wanted state =
+    if shows_details name then package_details state.nodes state.revisions (session_shown wanted state) state.book else []
+
+-- a row for each revision of a session's package that is shown, with the verdict of the session's book, for the format with this name
 abbrev pub session_rows : List ℕ → List Only → SessionState → List Row
 session_rows name wanted state =
-    shown_rows (shown_revisions wanted state.revisions (session_verdicts state))
-    (told_rows (part_names state.nodes) state.revisions (session_verdicts state) (session_details name state))
+    shown_rows (session_shown wanted state)
+    (told_rows (part_names state.nodes) state.revisions (session_verdicts state) (session_details name wanted state))
 
 -- the text of the format for these rows
 abbrev pub listing : List ℕ → List Only → Admission → Format Row → Writing

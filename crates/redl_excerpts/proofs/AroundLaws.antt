@@ -1,5 +1,5 @@
 -- A member with others inside it tells as if it had told all before them.
-use Rattle.std.proofs.Common.{◌≡◌, ◌≢◌, ℕ, suc, ◌+◌, ◌<◌, ◌==◌, Bool, true, false, List, [], ◌∷◌, ◌++◌, length, Option, Some, slice_get, refl, sym, ap, subst, ◌∙◌, arith, cond, eq-eqb}
+use Rattle.std.proofs.Common.{◌≡◌, ◌≢◌, ℕ, suc, ◌+◌, ◌<◌, ◌==◌, Bool, true, false, List, [], ◌∷◌, ◌++◌, length, Option, None, Some, slice_get, refl, sym, ap, subst, ◌∙◌, arith, cond, eq-eqb}
 use Rattle.std.proofs.Math.ListN.{set}
 use Rattle.std.proofs.lemmas.Bool.{eqb-true, eqb-false}
 use Rattle.std.proofs.lemmas.Option.{slice_get_within}
@@ -9,8 +9,8 @@ use Rattle.redl_index.specs.declared.revision.Revision.{Revision}
 use Rattle.redl_tree.specs.Model.Nodes.{Nodes, Tag}
 use Rattle.redl_excerpts.specs.declared.around.Away.{Away}
 use Rattle.redl_excerpts.specs.declared.excerpt.Excerpt.{Excerpt}
-use Rattle.redl_excerpts.specs.Excerpts.{TellsEach, is_moved, told_all}
-use Rattle.redl_excerpts.specs.Inside.Around.{IsAround, closed, first_of, opened}
+use Rattle.redl_excerpts.specs.Excerpts.{TellsEach, is_moved, told_all, told_if_made}
+use Rattle.redl_excerpts.specs.Inside.Around.{IsAround, closed, closed_if, first_if, first_of, opened, opened_if}
 use Rattle.redl_excerpts.specs.Mentions.{Mention, Where, in_element, inside, member_told, stretch_in, told_by}
 use Rattle.redl_excerpts.specs.Phrases.{Kept, heard}
 use Rattle.redl_excerpts.proofs.MemberLaws.{inside-element}
@@ -32,47 +32,52 @@ closed-told excerpt own (mention ∷ more) =
     closed-begun (heard (heard excerpt.words own.said) mention.said) mention.id mention.before mention.behind mention.changed
     (first_of excerpt own) own.behind more
 
+closed-told_if : (excerpt : Option Excerpt) (own : Mention) (inner : List Mention)
+    → closed_if (told_if_made inner (opened_if own.said excerpt)) (first_if own excerpt) own.behind ≡ told_if_made (own ∷ inner) excerpt
+closed-told_if None own inner = refl
+closed-told_if (Some excerpt) own inner = ap Some (closed-told excerpt own inner)
+
 -- ---- all of them
 
-pub tells-around : (old mid : List Excerpt) (at : ℕ) (excerpt within new : Excerpt) (own : Mention) (first inner : ℕ → List Mention) → at < length old
-    → slice_get old at ≡ Some excerpt → TellsEach (set old at (opened excerpt own.said)) mid inner → slice_get mid at ≡ Some within
+pub tells-around : (old mid : List (Option Excerpt)) (at : ℕ) (excerpt within new : Option Excerpt) (own : Mention) (first inner : ℕ → List Mention) → at < length old
+    → slice_get old at ≡ Some excerpt → TellsEach (set old at (opened_if own.said excerpt)) mid inner → slice_get mid at ≡ Some within
     → ((v : ℕ) → first v ≡ where_it_is (suc at) v (own ∷ []))
-    → new ≡ closed within (first_of excerpt own) own.behind
+    → new ≡ closed_if within (first_if own excerpt) own.behind
     → TellsEach old (set mid at new) (λ v. first v ++ inner v)
 tells-around old mid at excerpt within new own first inner bound found tells there alone is = λ k. by k (suc at == k + 1) refl
   where
-    open_one : Excerpt
-    open_one = opened excerpt own.said
+    open_one : Option Excerpt
+    open_one = opened_if own.said excerpt
 
     own_alone : first (at + 1) ≡ own ∷ []
     own_alone = alone (at + 1) ∙ ap (λ (b : Bool). cond b (own ∷ []) []) (eq-eqb (suc at) (at + 1) (omega arith))
 
-    within_is : within ≡ told_all open_one (inner (at + 1))
+    within_is : within ≡ told_if_made (inner (at + 1)) open_one
     within_is =
-        let both : Some within ≡ Some (told_all open_one (inner (at + 1))) =
-        sym there ∙ tells at ∙ ap (option_map (λ (x : Excerpt). told_all x (inner (at + 1)))) (slice_get-here old at open_one bound) in
+        let both : Some within ≡ Some (told_if_made (inner (at + 1)) open_one) =
+        sym there ∙ tells at ∙ ap (option_map (told_if_made (inner (at + 1)))) (slice_get-here old at open_one bound) in
         cc
 
-    whole : new ≡ told_all excerpt (first (at + 1) ++ inner (at + 1))
+    whole : new ≡ told_if_made (first (at + 1) ++ inner (at + 1)) excerpt
     whole =
-        is ∙ ap (λ (x : Excerpt). closed x (first_of excerpt own) own.behind) within_is
-        ∙ closed-told excerpt own (inner (at + 1)) ∙ ap (λ (ms : List Mention). told_all excerpt (ms ++ inner (at + 1))) (sym own_alone)
+        is ∙ ap (λ (x : Option Excerpt). closed_if x (first_if own excerpt) own.behind) within_is
+        ∙ closed-told_if excerpt own (inner (at + 1)) ∙ ap (λ (ms : List Mention). told_if_made (ms ++ inner (at + 1)) excerpt) (sym own_alone)
 
-    here : slice_get (set mid at new) at ≡ option_map (λ (x : Excerpt). told_all x (first (at + 1) ++ inner (at + 1))) (slice_get old at)
+    here : slice_get (set mid at new) at ≡ option_map (told_if_made (first (at + 1) ++ inner (at + 1))) (slice_get old at)
     here =
         slice_get-here mid at new (slice_get_within mid at within there) ∙ ap Some whole
-        ∙ sym (ap (option_map (λ (x : Excerpt). told_all x (first (at + 1) ++ inner (at + 1)))) found)
+        ∙ sym (ap (option_map (told_if_made (first (at + 1) ++ inner (at + 1)))) found)
 
-    by : (k : ℕ) (test : Bool) → (suc at == k + 1) ≡ test → slice_get (set mid at new) k ≡ option_map (λ (x : Excerpt). told_all x (first (k + 1) ++ inner (k + 1))) (slice_get old k)
+    by : (k : ℕ) (test : Bool) → (suc at == k + 1) ≡ test → slice_get (set mid at new) k ≡ option_map (told_if_made (first (k + 1) ++ inner (k + 1))) (slice_get old k)
     by k true test =
         let number : suc at ≡ k + 1 = eqb-true (suc at) (k + 1) test in
         let same : at ≡ k = omega (arith, number) in
-        subst (λ j. slice_get (set mid at new) j ≡ option_map (λ (x : Excerpt). told_all x (first (j + 1) ++ inner (j + 1))) (slice_get old j)) same here
+        subst (λ j. slice_get (set mid at new) j ≡ option_map (told_if_made (first (j + 1) ++ inner (j + 1))) (slice_get old j)) same here
     by k false test =
         let elsewhere : k ≢ at = λ same. eqb-false (suc at) (k + 1) test (omega (arith, same)) in
         let none : first (k + 1) ≡ [] = alone (k + 1) ∙ ap (λ (b : Bool). cond b (own ∷ []) []) test in
-        slice_get-elsewhere mid at k new elsewhere ∙ tells k ∙ ap (option_map (λ (x : Excerpt). told_all x (inner (k + 1)))) (slice_get-elsewhere old at k open_one elsewhere)
-        ∙ ap (λ (ms : List Mention). option_map (λ (x : Excerpt). told_all x (ms ++ inner (k + 1))) (slice_get old k)) (sym none)
+        slice_get-elsewhere mid at k new elsewhere ∙ tells k ∙ ap (option_map (told_if_made (inner (k + 1)))) (slice_get-elsewhere old at k open_one elsewhere)
+        ∙ ap (λ (ms : List Mention). option_map (told_if_made (ms ++ inner (k + 1))) (slice_get old k)) (sym none)
 
 -- what such a member tells
 pub member-around : (revisions : List Revision) (at count : ℕ) (here : Where) (tag : Tag) (kids : Nodes) → IsAround revisions tag kids here.place count → suc at ≡ tag.rev
@@ -104,7 +109,7 @@ inside-around revisions count here tag kids below around same =
     standing in_text owner = record { in_text = in_text; siblings = owner; owner = owner; owner_place = here.place; place = here.place; whole = here.whole }
 
 -- the excerpt that was opened is still at its place
-pub tells-keep : (old mid : List Excerpt) (at : ℕ) (new : Excerpt) (mentions_of : ℕ → List Mention) → at < length old → TellsEach (set old at new) mid mentions_of → at < length mid
+pub tells-keep : (old mid : List (Option Excerpt)) (at : ℕ) (new : Option Excerpt) (mentions_of : ℕ → List Mention) → at < length old → TellsEach (set old at new) mid mentions_of → at < length mid
 tells-keep old mid at new mentions_of bound tells =
-    slice_get_within mid at (told_all new (mentions_of (at + 1)))
-    (tells at ∙ ap (option_map (λ (x : Excerpt). told_all x (mentions_of (at + 1)))) (slice_get-here old at new bound))
+    slice_get_within mid at (told_if_made (mentions_of (at + 1)) new)
+    (tells at ∙ ap (option_map (told_if_made (mentions_of (at + 1)))) (slice_get-here old at new bound))

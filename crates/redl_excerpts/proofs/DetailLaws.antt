@@ -1,5 +1,5 @@
 -- Texts that are UTF-8, and details one after another.
-use Rattle.std.proofs.Common.{◌≡◌, ◌+◌, ◌<◌, ℕ, suc, Bool, true, false, List, [], ◌∷◌, ◌++◌, length, map, take, get_or, refl, sym, ap, ◌∙◌, arith, append_assoc}
+use Rattle.std.proofs.Common.{◌≡◌, ◌+◌, ◌<◌, ℕ, suc, Bool, true, false, List, [], ◌∷◌, ◌++◌, length, map, take, get_or, Option, refl, sym, ap, ◌∙◌, arith, append_assoc}
 use Rattle.std.proofs.lemmas.List.{append-nil, length_push, map_more, map-append}
 use Rattle.std.specs.Map.Iter.{deref}
 use denote.Ref.{Bor}
@@ -9,7 +9,7 @@ use Rattle.redl_excerpts.specs.declared.excerpt.Excerpt.{Excerpt}
 use Rattle.redl_journal.specs.declared.entry.Entry.{Entry}
 use Rattle.redl_excerpts.specs.declared.detail.Detail.{Detail}
 use Rattle.redl_excerpts.specs.declared.last_word.LastWord.{LastWord}
-use Rattle.redl_excerpts.specs.Details.{detail_of, details_from, details_of, last_word_of, text_or_nothing}
+use Rattle.redl_excerpts.specs.Details.{detail_if, details_from, details_of, last_word_of, text_or_nothing}
 
 pub text-is : (bytes : List ℕ) → IsUtf8 bytes → bytes ≡ text_or_nothing bytes
 text-is bytes is = rw (is_utf8-from_IsUtf8 bytes is) refl
@@ -43,7 +43,7 @@ text-lost text bytes nothing same is none =
     none ∙ rw here refl
 
 -- no detail so far
-pub details-begun : (details : List Detail) (left excerpts : List Excerpt) (entries_on : ℕ → List Entry) (most : ℕ) → details ≡ [] → left ≡ excerpts → length excerpts < most
+pub details-begun : (details : List Detail) (left excerpts : List (Option Excerpt)) (entries_on : ℕ → List Entry) (most : ℕ) → details ≡ [] → left ≡ excerpts → length excerpts < most
     → (details ++ details_from (length details + 1) left entries_on ≡ details_of excerpts entries_on) × (length details + length left < most)
 details-begun details left excerpts entries_on most none all within =
     let count : length details ≡ 0 = ap length none in
@@ -51,8 +51,8 @@ details-begun details left excerpts entries_on most none all within =
     (rw (none, all) refl, omega (arith, count, same, within))
 
 -- one more detail, of the first of the excerpts that are left
-pub details-more : (details more whole : List Detail) (excerpts left : List Excerpt) (entries_on : ℕ → List Entry) (excerpt : Excerpt) (detail : Detail) → excerpts ≡ excerpt ∷ left
-    → detail ≡ detail_of excerpt (entries_on (length details + 1)) → more ≡ details ++ detail ∷ [] → details ++ details_from (length details + 1) excerpts entries_on ≡ whole
+pub details-more : (details more whole : List Detail) (excerpts left : List (Option Excerpt)) (entries_on : ℕ → List Entry) (excerpt : Option Excerpt) (detail : Detail) → excerpts ≡ excerpt ∷ left
+    → detail ≡ detail_if excerpt (entries_on (length details + 1)) → more ≡ details ++ detail ∷ [] → details ++ details_from (length details + 1) excerpts entries_on ≡ whole
     → more ++ details_from (length more + 1) left entries_on ≡ whole
 details-more details more whole excerpts left entries_on excerpt detail front is grown so_far =
     let next = length details + 1 in
@@ -63,11 +63,11 @@ details-more details more whole excerpts left entries_on excerpt detail front is
     ∙ ap (λ xs. details ++ details_from next xs entries_on) (sym front) ∙ so_far
 
 -- none is left
-pub details-done : (details whole : List Detail) (left : List Excerpt) (entries_on : ℕ → List Entry) → left ≡ [] → details ++ details_from (length details + 1) left entries_on ≡ whole → details ≡ whole
+pub details-done : (details whole : List Detail) (left : List (Option Excerpt)) (entries_on : ℕ → List Entry) → left ≡ [] → details ++ details_from (length details + 1) left entries_on ≡ whole → details ≡ whole
 details-done details whole left entries_on none so_far = sym (append-nil details) ∙ (rw none at so_far)
 
 -- as many details and excerpts are left as before
-pub count-more : (details more : List Detail) (excerpts left : List Excerpt) (excerpt : Excerpt) (detail : Detail) (most : ℕ) → excerpts ≡ excerpt ∷ left → more ≡ details ++ detail ∷ []
+pub count-more : (details more : List Detail) (excerpts left : List (Option Excerpt)) (excerpt : Option Excerpt) (detail : Detail) (most : ℕ) → excerpts ≡ excerpt ∷ left → more ≡ details ++ detail ∷ []
     → length details + length excerpts < most → length more + length left < most
 count-more details more excerpts left excerpt detail most front grown within =
     let count : length more ≡ length details + 1 = ap length grown ∙ length_push details detail in
@@ -83,8 +83,8 @@ words-more words entries i entry said within at is so_far =
     rw (so_far, is) (sym (ap (map last_word_of) more ∙ map-append last_word_of (map deref (take i entries)) (deref entry ∷ [])))
 
 -- the same words on each revision make the same details
-pub details_from-same : (number : ℕ) (excerpts : List Excerpt) (first second : ℕ → List Entry) → ((rev : ℕ) → first rev ≡ second rev) → details_from number excerpts first ≡ details_from number excerpts second
+pub details_from-same : (number : ℕ) (excerpts : List (Option Excerpt)) (first second : ℕ → List Entry) → ((rev : ℕ) → first rev ≡ second rev) → details_from number excerpts first ≡ details_from number excerpts second
 details_from-same number [] first second same = refl
 details_from-same number (excerpt ∷ more) first second same =
-    ap (λ entries. detail_of excerpt entries ∷ details_from (number + 1) more first) (same number)
-    ∙ ap (λ rest. detail_of excerpt (second number) ∷ rest) (details_from-same (number + 1) more first second same)
+    ap (λ entries. detail_if excerpt entries ∷ details_from (number + 1) more first) (same number)
+    ∙ ap (λ rest. detail_if excerpt (second number) ∷ rest) (details_from-same (number + 1) more first second same)

@@ -1,5 +1,5 @@
 -- Excerpts that are told of nodes, one after another.
-use Rattle.std.proofs.Common.{◌≡◌, ℕ, Bool, true, false, List, [], ◌++◌, refl, sym, ap, ◌∙◌, append_assoc}
+use Rattle.std.proofs.Common.{◌≡◌, ℕ, Bool, true, false, List, Option, [], ◌++◌, refl, sym, ap, ◌∙◌, append_assoc}
 use Rattle.std.proofs.lemmas.List.{append-nil}
 use Rattle.std.proofs.Math.Bool.{or-true}
 use Rattle.redl_tree.specs.Model.Nodes.{Tag, Nodes, Item, bytes_item, element_item, idle_item, in_front}
@@ -14,18 +14,18 @@ use Rattle.redl_excerpts.proofs.MentionLaws.{mentions_idle}
 use Rattle.redl_excerpts.proofs.TellLaws.{tells-as, tells-nothing, tells-then}
 
 -- the excerpts are told of a first part of the mentions, and these are left
-pub record TellsSoFar (old now : List Excerpt) (whole left : ℕ → List Mention) : Type 0 where
+pub record TellsSoFar (old now : List (Option Excerpt)) (whole left : ℕ → List Mention) : Type 0 where
   pub part : ℕ → List Mention
   pub told : TellsEach old now part
   pub is : (v : ℕ) → part v ++ left v ≡ whole v
 
-pub tells-begins : (excerpts : List Excerpt) (whole : ℕ → List Mention) → TellsSoFar excerpts excerpts whole whole
+pub tells-begins : (excerpts : List (Option Excerpt)) (whole : ℕ → List Mention) → TellsSoFar excerpts excerpts whole whole
 tells-begins excerpts whole = record { part = λ v. []; told = tells-nothing excerpts; is = λ v. refl }
 
-pub tells-begins-at : (excerpts : List Excerpt) (whole left : ℕ → List Mention) → ((v : ℕ) → left v ≡ whole v) → TellsSoFar excerpts excerpts whole left
+pub tells-begins-at : (excerpts : List (Option Excerpt)) (whole left : ℕ → List Mention) → ((v : ℕ) → left v ≡ whole v) → TellsSoFar excerpts excerpts whole left
 tells-begins-at excerpts whole left same = record { part = λ v. []; told = tells-nothing excerpts; is = same }
 
-pub tells-goes_on : (old now next : List Excerpt) (whole left here rest : ℕ → List Mention) → TellsSoFar old now whole left → TellsEach now next here → ((v : ℕ) → left v ≡ here v ++ rest v)
+pub tells-goes_on : (old now next : List (Option Excerpt)) (whole left here rest : ℕ → List Mention) → TellsSoFar old now whole left → TellsEach now next here → ((v : ℕ) → left v ≡ here v ++ rest v)
     → TellsSoFar old next whole rest
 tells-goes_on old now next whole left here rest so_far tells splits = record {
   part = λ v. so_far.part v ++ here v;
@@ -33,7 +33,7 @@ tells-goes_on old now next whole left here rest so_far tells splits = record {
   is = λ v. append_assoc (so_far.part v) (here v) (rest v) ∙ ap (λ (ms : List Mention). so_far.part v ++ ms) (sym (splits v)) ∙ so_far.is v;
 }
 
-pub tells-ends : (old now : List Excerpt) (whole left : ℕ → List Mention) → TellsSoFar old now whole left → ((v : ℕ) → left v ≡ []) → TellsEach old now whole
+pub tells-ends : (old now : List (Option Excerpt)) (whole left : ℕ → List Mention) → TellsSoFar old now whole left → ((v : ℕ) → left v ≡ []) → TellsEach old now whole
 tells-ends old now whole left so_far none =
     tells-as old now so_far.part whole (λ v. sym (append-nil (so_far.part v)) ∙ ap (λ (ms : List Mention). so_far.part v ++ ms) (sym (none v)) ∙ so_far.is v) so_far.told
 
@@ -65,7 +65,7 @@ pub said-element : (tag : Tag) (kids : Nodes) → is "p" tag ≡ false → is_qu
 said-element tag kids para quiet = rw (para, quiet) refl
 
 -- a member tells, and then what is inside it
-pub told-inside : (old mid new : List Excerpt) (first : ℕ → List Mention) (moved : ℕ → Bool) (here there : Where) (tag : Tag) (kids below : Nodes)
+pub told-inside : (old mid new : List (Option Excerpt)) (first : ℕ → List Mention) (moved : ℕ → Bool) (here there : Where) (tag : Tag) (kids below : Nodes)
     → TellsEach old mid first → TellsEach mid new (λ v. mentions (moved v) v there below) → there ≡ inside here tag kids → below ≡ kids
     → TellsEach old new (λ v. first v ++ mentions (moved v) v (inside here tag kids) kids)
 told-inside old mid new first moved here there tag kids below one two same kids_same =

@@ -1,5 +1,5 @@
 -- Details: what a listing shows of a revision beside its row, its text and the last words of its reviewers (our own rule).
-use Rattle.std.specs.Prelude.{ℕ, ◌+◌, List, [], ◌∷◌, map, All, IfSome, None, if◌then◌else◌}
+use Rattle.std.specs.Prelude.{ℕ, ◌+◌, Bool, List, [], ◌∷◌, map, All, IfSome, Option, None, Some, if◌then◌else◌}
 use Rattle.std.specs.Option.{option_map}
 use Rattle.std.specs.Str.{IsUtf8, is_utf8}
 use Rattle.redl_changed.specs.Changed.{nothing_changed}
@@ -36,13 +36,18 @@ detail_of excerpt entries = record {
 abbrev pub no_detail : Detail
 no_detail = record { words = []; before = []; after = []; id = None; changed = nothing_changed; says = [] }
 
+-- the detail of a revision, if there is an excerpt of it
+abbrev pub detail_if : Option Excerpt → List Entry → Detail
+detail_if None entries = no_detail
+detail_if (Some excerpt) entries = detail_of excerpt entries
+
 -- the details of revisions, of which the first has this number
-abbrev pub details_from : ℕ → List Excerpt → (ℕ → List Entry) → List Detail
+abbrev pub details_from : ℕ → List (Option Excerpt) → (ℕ → List Entry) → List Detail
 details_from number [] entries_on = []
-details_from number (excerpt ∷ more) entries_on = detail_of excerpt (entries_on number) ∷ details_from (number + 1) more entries_on
+details_from number (excerpt ∷ more) entries_on = detail_if excerpt (entries_on number) ∷ details_from (number + 1) more entries_on
 
 -- the details of the revisions from number 1 on
-abbrev pub details_of : List Excerpt → (ℕ → List Entry) → List Detail
+abbrev pub details_of : List (Option Excerpt) → (ℕ → List Entry) → List Detail
 details_of excerpts entries_on = details_from 1 excerpts entries_on
 
 -- what a detail keeps: its texts are UTF-8
@@ -53,6 +58,6 @@ pub record IsDetail (detail : Detail) : Type 0 where
   pub id : IfSome detail.id IsUtf8
   pub says : All (λ (said : LastWord). IsUtf8 said.reviewer) detail.says
 
--- the details of the revisions of a package, on which a book has these entries
-abbrev pub package_details : Nodes → List Revision → List Entry → List Detail
-package_details nodes revisions book = details_of (excerpts_of nodes revisions) (last_words book)
+-- the details of the revisions of a package that are wanted, on which a book has these entries, and none of each other one
+abbrev pub package_details : Nodes → List Revision → List Bool → List Entry → List Detail
+package_details nodes revisions wanted book = details_of (excerpts_of nodes revisions wanted) (last_words book)

@@ -1,7 +1,7 @@
 //! A member in which other members stand: the nodes in it are gone over once, for all of them.
 
 ghost use Rattle.std.specs.Prelude.{◌≡◌, IfOk, OnOk, false};
-ghost use Rattle.redl_excerpts.specs.Inside.Around.{closed, first_of, opened};
+ghost use Rattle.redl_excerpts.specs.Inside.Around.{closed, closed_if, first_if, first_of, opened, opened_if};
 ghost use Rattle.redl_excerpts.specs.Mentions.{stretch_in};
 ghost use Rattle.redl_excerpts.specs.Lines.{behind};
 ghost use Rattle.redl_excerpts.specs.Said.{said};
@@ -24,9 +24,9 @@ pub(crate) struct Away {
 }
 
 impl Excerpt {
-    /// A member tells of what it holds, which begins at this place of the line, but for what comes after that: this is told at
-    /// its end, by `end_around`. Until then `begun` says whether a member inside it told. `Err` means out of memory.
-    pub(crate) fn begin_around(
+    // A member tells of what it holds, which begins at this place of the line, but for what comes after that: this is told at its
+    // end, by `end_around`. Until then `begun` says whether a member inside it told. `Err` means out of memory.
+    fn begin_around(
         &mut self,
         alloc: Global,
         elem: &Elem,
@@ -48,8 +48,8 @@ impl Excerpt {
         })
     }
 
-    /// The member that began last ends at this place of the line. `Err` means out of memory.
-    pub(crate) fn end_around(
+    // The member that began last ends at this place of the line. `Err` means out of memory.
+    fn end_around(
         &mut self,
         alloc: Global,
         line: &[u8],
@@ -66,5 +66,46 @@ impl Excerpt {
         self.changed = away.changed;
         self.begun = true;
         Ok(())
+    }
+}
+
+/// A member tells of what it holds, which begins at this place of the line, if an excerpt of its revision is made, but for what comes
+/// after that: this is told at its end, by `end_around`. Until then `begun` says whether a member inside it told. `Err` means out
+/// of memory.
+pub(crate) fn begin_around(
+    alloc: Global,
+    excerpt: &mut Option<Excerpt>,
+    elem: &Elem,
+    line: &[u8],
+    place: LinePlace,
+) -> Result<Option<Away>, AllocError>
+    ensures opened { OnOk result (excerpt.new ≡ opened_if (said false false (kids_of elem.now)) excerpt.old) }
+    ensures away { IfOk result (λ away. away ≡ first_if (stretch_in line.now (tag_of elem.now) place (kids_of elem.now)) excerpt.old) }
+{
+    match excerpt {
+        Some(excerpt) => {
+            let away = excerpt.begin_around(alloc, elem, line, place)?;
+            Ok(Some(away))
+        }
+        None => Ok(None),
+    }
+}
+
+/// The member that began last ends at this place of the line. `Err` means out of memory.
+pub(crate) fn end_around(
+    alloc: Global,
+    excerpt: &mut Option<Excerpt>,
+    line: &[u8],
+    end: LinePlace,
+    away: Option<Away>,
+) -> Result<(), AllocError>
+    ensures { OnOk result (excerpt.new ≡ closed_if excerpt.old away (behind line.now end)) }
+{
+    let Some(away) = away else {
+        return Ok(());
+    };
+    match excerpt {
+        Some(excerpt) => excerpt.end_around(alloc, line, end, away),
+        None => Ok(()),
     }
 }

@@ -3,7 +3,7 @@
 ghost use Rattle.std.specs.Prelude.{◌≡◌, ◌+◌, ◌^◌, ◌<◌, All, IfOk, length, map};
 ghost use Rattle.std.specs.Map.Iter.{deref};
 ghost use Rattle.redl_join.specs.LastWords.{words_on};
-ghost use Rattle.redl_excerpts.specs.Details.{IsDetail, detail_of, details_of, no_detail};
+ghost use Rattle.redl_excerpts.specs.Details.{IsDetail, detail_if, detail_of, details_of, no_detail};
 
 use crate::Excerpt;
 use crate::checked::{kept, kept_if_any};
@@ -107,11 +107,26 @@ fn copy_if_any(alloc: Global, text: &Option<Text>) -> Result<Option<Text>, Alloc
     }
 }
 
+// The detail of a revision with this excerpt, if there is one. `Err` means out of memory.
+fn detail_if(
+    alloc: Global,
+    excerpt: Option<Excerpt>,
+    entries: &[&Entry],
+) -> Result<Detail, AllocError>
+    ensures value { IfOk result (λ detail. detail ≡ detail_if excerpt (map deref entries.now)) }
+    ensures utf8 { IfOk result IsDetail }
+{
+    match excerpt {
+        Some(excerpt) => Detail::of(alloc, excerpt, entries),
+        None => Detail::none(alloc),
+    }
+}
+
 /// The details of the revisions of a package, which have these excerpts in the order of their numbers, where these are the last
-/// words on them. `Err` means out of memory.
+/// words on them. A revision without an excerpt has none. `Err` means out of memory.
 pub fn details(
     alloc: Global,
-    excerpts: Vec<Excerpt>,
+    excerpts: Vec<Option<Excerpt>>,
     words: &LastWords<'_>,
 ) -> Result<Vec<Detail>, AllocError>
     requires { length excerpts.items < 2 ^ 32 }
@@ -121,7 +136,7 @@ pub fn details(
     let mut details = Vec::new(alloc);
     for excerpt in excerpts {
         let number = details.len() as u32 + 1;
-        let detail = Detail::of(alloc, excerpt, words.on(number))?;
+        let detail = detail_if(alloc, excerpt, words.on(number))?;
         details.push(detail)?;
     }
     Ok(details)

@@ -10,21 +10,22 @@ use redl_join::Book;
 use redl_opc::Package;
 use std::alloc::{AllocError, Global};
 
-/// The details of the revisions of a numbered package, in the order of their numbers, on which the book has these entries. `Err`
-/// means out of memory.
+/// The details of the revisions of a numbered package that are wanted, on which the book has these entries, and none of each other
+/// one, in the order of their numbers. `Err` means out of memory.
 ///
-/// The index is that of the package. It goes over each story once.
+/// `wanted` says of each revision whether it is wanted. The index is that of the package. It goes over each story once.
 pub fn package_details(
     alloc: Global,
     pkg: &Package,
     index: &Index,
+    wanted: &[bool],
     book: &Book,
 ) -> Result<Vec<Detail>, AllocError>
-    ensures value { IfOk result (λ details. details.items ≡ package_details pkg.now index.now book.now) }
+    ensures value { IfOk result (λ details. details.items ≡ package_details pkg.now index.now wanted.now book.now) }
     ensures utf8 { IfOk result (λ details. All IsDetail details.items) }
 {
     let _count = index.count();
-    let excerpts = excerpts(alloc, pkg, index)?;
+    let excerpts = excerpts(alloc, pkg, index, wanted)?;
     let words = book.last_words()?;
     let details = details(alloc, excerpts, &words)?;
     Ok(details)

@@ -4,7 +4,7 @@ ghost use Rattle.std.specs.Prelude.{◌≡◌, ◌<◌, ◌∷◌, [], IfOk, IfS
 ghost use Rattle.redl_tree.specs.Model.IdleTexts.{idle_nodes};
 ghost use Rattle.redl_tree.specs.Model.View.{nodes_of, item_of, tag_of, kids_of};
 ghost use Rattle.redl_changed.specs.Changed.{changed_of};
-ghost use Rattle.redl_excerpts.specs.Excerpts.{TellsEach, is_moved, told, told_all};
+ghost use Rattle.redl_excerpts.specs.Excerpts.{TellsEach, is_moved, told, told_all, told_if_made};
 ghost use Rattle.redl_excerpts.specs.Lines.{along, line_of};
 ghost use Rattle.redl_excerpts.specs.Mentions.{Where, bytes_said, changing, element_mentions, in_paragraph, item_mentions, member_told, mentions, stretch_in, told_by};
 ghost use Rattle.redl_excerpts.specs.Said.{element_said, holds_text, item_said, said, start_said};
@@ -12,8 +12,9 @@ ghost use Rattle.redl_excerpts.specs.Inside.Around.{IsAround};
 ghost use Rattle.redl_excerpts.specs.Inside.Flat.{are_flat};
 ghost use Rattle.redl_excerpts.specs.Inside.Views.{where_of};
 
+use crate::around::{begin_around, end_around};
 use crate::excerpt::Excerpt;
-use crate::flat::{are_flat, count_telling};
+use crate::flat::{are_flat, count_telling, is_made};
 use crate::{
     Line, LinePlace, holds_text, is_paragraph, tell_bytes, tell_nodes, tell_plain, tell_start,
 };
@@ -49,7 +50,7 @@ pub(crate) fn tell_members(
     nodes: &[Node],
     here: Here<'_, '_, '_, '_>,
     place: LinePlace,
-    excerpts: &mut Vec<Excerpt>,
+    excerpts: &mut Vec<Option<Excerpt>>,
 ) -> Result<LinePlace, AllocError>
     ensures told { OnOk result (TellsEach excerpts.old.items excerpts.new.items (λ v. mentions (is_moved revisions.now v) v (where_of here.entry place) (nodes_of nodes.now))) }
     ensures place { IfOk result (λ behind. behind ≡ along place (said true here.entry.in_text (nodes_of nodes.now))) }
@@ -68,7 +69,7 @@ fn tell_member_node(
     node: &Node,
     here: Here<'_, '_, '_, '_>,
     place: LinePlace,
-    excerpts: &mut Vec<Excerpt>,
+    excerpts: &mut Vec<Option<Excerpt>>,
 ) -> Result<LinePlace, AllocError>
     ensures told { OnOk result (TellsEach excerpts.old.items excerpts.new.items (λ v. item_mentions (is_moved revisions.now v) v (where_of here.entry place) (item_of node.now))) }
     ensures place { IfOk result (λ behind. behind ≡ along place (item_said true here.entry.in_text (item_of node.now))) }
@@ -109,12 +110,12 @@ fn tell_member_elem(
     elem: &Elem,
     here: Here<'_, '_, '_, '_>,
     place: LinePlace,
-    excerpts: &mut Vec<Excerpt>,
+    excerpts: &mut Vec<Option<Excerpt>>,
 ) -> Result<LinePlace, AllocError>
     ensures told { OnOk result (TellsEach excerpts.old.items excerpts.new.items (λ v. element_mentions (is_moved revisions.now v) v (where_of here.entry place) (tag_of elem.now) (kids_of elem.now))) }
     ensures place { IfOk result (λ behind. behind ≡ along place (element_said true (tag_of elem.now) (kids_of elem.now))) }
 {
-    if stands_around(revisions, elem, place, excerpts.len())? {
+    if stands_around(revisions, excerpts, elem, place)? {
         let behind = tell_around(alloc, revisions, elem, here, place, excerpts)?;
         return Ok(behind);
     }
@@ -136,7 +137,7 @@ fn tell_member_elem(
         return Ok(place);
     }
     let begin = past_start(elem, place)?;
-    if let Some(end) = end_of_flat(elem, place, begin, end) {
+    if let Some(end) = end_of_flat(excerpts, elem, place, begin, end) {
         return Ok(end);
     }
     let inside = Here {
@@ -150,21 +151,21 @@ fn tell_member_elem(
     Ok(behind)
 }
 
-// Whether an element is a member that tells of what it holds, among so many revisions, and other members or paragraphs stand inside
-// it. It says nothing at its start tag. `Err` means out of memory.
+// Whether an element is a member that tells an excerpt of what it holds, and other members or paragraphs stand inside it. It says
+// nothing at its start tag. `Err` means out of memory.
 fn stands_around(
     revisions: &[Revision],
+    excerpts: &[Option<Excerpt>],
     elem: &Elem,
     place: LinePlace,
-    count: usize,
 ) -> Result<bool, AllocError>
-    ensures { IfOk result (λ around. IsTrue around → IsAround revisions.now (tag_of elem.now) (kids_of elem.now) place count) }
+    ensures { IfOk result (λ around. IsTrue around → IsAround revisions.now (tag_of elem.now) (kids_of elem.now) place (length excerpts.now)) }
 {
     let number = elem.rev() as usize;
-    if number == 0 || count < number || !tells_of_kids(is_moved(revisions, number), elem) {
+    if !is_made(excerpts, number) || !tells_of_kids(is_moved(revisions, number), elem) {
         return Ok(false);
     }
-    if is_paragraph(elem) || is_quiet(elem) || holds_text(elem) || are_flat(elem.kids()) {
+    if is_paragraph(elem) || is_quiet(elem) || holds_text(elem) || are_flat(excerpts, elem.kids()) {
         return Ok(false);
     }
     let begin = past_start(elem, place)?;
@@ -190,7 +191,7 @@ fn tell_around(
     elem: &Elem,
     here: Here<'_, '_, '_, '_>,
     place: LinePlace,
-    excerpts: &mut Vec<Excerpt>,
+    excerpts: &mut Vec<Option<Excerpt>>,
 ) -> Result<LinePlace, AllocError>
     requires around { IsAround revisions.now (tag_of elem.now) (kids_of elem.now) place (length excerpts.old.items) }
     ensures told { OnOk result (TellsEach excerpts.old.items excerpts.new.items (λ v. element_mentions (is_moved revisions.now v) v (where_of here.entry place) (tag_of elem.now) (kids_of elem.now))) }
@@ -205,9 +206,9 @@ fn tell_around(
         owner_place: place,
         whole: here.whole,
     };
-    let away = excerpts[at].begin_around(alloc, elem, here.whole, place)?;
+    let away = begin_around(alloc, &mut excerpts[at], elem, here.whole, place)?;
     let end = tell_members(alloc, revisions, held, inside, place, excerpts)?;
-    excerpts[at].end_around(alloc, here.whole, end, away)?;
+    end_around(alloc, &mut excerpts[at], here.whole, end, away)?;
     Ok(end)
 }
 
@@ -222,6 +223,7 @@ fn past_start(elem: &Elem, place: LinePlace) -> Result<LinePlace, AllocError>
 // The place behind an element's kids, which begin here, where a member told of them and nothing inside tells: that where they ended
 // then, so that they need not be walked once more.
 fn end_of_flat(
+    excerpts: &[Option<Excerpt>],
     elem: &Elem,
     place: LinePlace,
     begin: LinePlace,
@@ -229,9 +231,9 @@ fn end_of_flat(
 ) -> Option<LinePlace>
     requires { IfSome end (λ end. end ≡ along place (said true false (kids_of elem.now))) }
     ensures behind { IfSome result (λ behind. behind ≡ along begin (said true (holds_text (tag_of elem.now)) (kids_of elem.now))) }
-    ensures flat { IsSome result → are_flat (kids_of elem.now) ≡ true }
+    ensures flat { IsSome result → are_flat excerpts.now (kids_of elem.now) ≡ true }
 {
-    if end.is_some() && begin == place && !holds_text(elem) && are_flat(elem.kids()) {
+    if end.is_some() && begin == place && !holds_text(elem) && are_flat(excerpts, elem.kids()) {
         return end;
     }
     None
@@ -242,12 +244,12 @@ fn tell_paragraph(
     alloc: Global,
     revisions: &[Revision],
     elem: &Elem,
-    excerpts: &mut Vec<Excerpt>,
+    excerpts: &mut Vec<Option<Excerpt>>,
 ) -> Result<(), AllocError>
     ensures { OnOk result (TellsEach excerpts.old.items excerpts.new.items (λ v. mentions (is_moved revisions.now v) v (in_paragraph (kids_of elem.now) (line_of (said true false (kids_of elem.now)))) (kids_of elem.now))) }
 {
     let held = elem.kids();
-    let count = count_telling(held);
+    let count = count_telling(excerpts, held);
     if count == 0 {
         return Ok(());
     }
@@ -274,7 +276,7 @@ fn line_of(alloc: Global, nodes: &[Node]) -> Result<Line, AllocError>
     Ok(line)
 }
 
-// Tells the excerpt of its revision what an element tells, where it is a member of one. It gives the place where the element's kids
+// Tells the excerpt of its revision what an element tells, where it is a member of one of which an excerpt is made. It gives the place where the element's kids
 // end in the line, where these are what it tells of.
 fn tell_member(
     alloc: Global,
@@ -282,7 +284,7 @@ fn tell_member(
     elem: &Elem,
     here: Here<'_, '_, '_, '_>,
     place: LinePlace,
-    excerpts: &mut Vec<Excerpt>,
+    excerpts: &mut Vec<Option<Excerpt>>,
 ) -> Result<Option<LinePlace>, AllocError>
     ensures told { OnOk result (TellsEach excerpts.old.items excerpts.new.items (λ v. member_told (is_moved revisions.now v) v (where_of here.entry place) (tag_of elem.now) (kids_of elem.now))) }
     ensures end { IfOk result (λ end. IfSome end (λ end. end ≡ along place (said true false (kids_of elem.now)))) }
@@ -295,8 +297,26 @@ fn tell_member(
         return Ok(None);
     }
     let moved = is_moved(revisions, number);
-    let end = tell_kind(alloc, moved, elem, here, place, &mut excerpts[number - 1])?;
+    let end = tell_if_made(alloc, moved, elem, here, place, &mut excerpts[number - 1])?;
     Ok(end)
+}
+
+// The same, where this is the excerpt, if it is made.
+fn tell_if_made(
+    alloc: Global,
+    moved: bool,
+    elem: &Elem,
+    here: Here<'_, '_, '_, '_>,
+    place: LinePlace,
+    excerpt: &mut Option<Excerpt>,
+) -> Result<Option<LinePlace>, AllocError>
+    ensures told { OnOk result (excerpt.new ≡ told_if_made (told_by moved (where_of here.entry place) (tag_of elem.now).kind (tag_of elem.now) (kids_of elem.now)) excerpt.old) }
+    ensures end { IfOk result (λ end. IfSome end (λ end. end ≡ along place (said true false (kids_of elem.now)))) }
+{
+    match excerpt {
+        Some(excerpt) => tell_kind(alloc, moved, elem, here, place, excerpt),
+        None => Ok(None),
+    }
 }
 
 fn is_moved(revisions: &[Revision], number: usize) -> bool

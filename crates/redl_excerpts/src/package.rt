@@ -1,10 +1,10 @@
-//! The excerpts of a package.
+//! The excerpts of the revisions of a package that are wanted.
 
 ghost use Rattle.std.specs.Prelude.{◌≡◌, IfOk, OnOk, map};
 ghost use Rattle.std.specs.List.{flat_map};
 ghost use Rattle.redl_opc.specs.Stories.{stories_of_part};
 ghost use Rattle.redl_tree.specs.Model.View.{kids_of};
-ghost use Rattle.redl_excerpts.specs.Excerpts.{TellsEach, excerpts_of, is_moved, nothing_told, package_mentions};
+ghost use Rattle.redl_excerpts.specs.Excerpts.{TellsEach, excerpts_of, is_moved, is_wanted, package_mentions, wanted_nothing};
 ghost use Rattle.redl_excerpts.specs.Mentions.{mentions, outside};
 
 use crate::LinePlace;
@@ -15,34 +15,72 @@ use redl_opc::Package;
 use redl_tree::Elem;
 use std::alloc::{AllocError, Global};
 
-/// The excerpts of the revisions of a numbered package, in the order of their numbers. `Err` means out of memory.
+/// For each revision of a numbered package, in the order of their numbers, its excerpt if it is wanted, and else none. `Err` means
+/// out of memory.
 ///
-/// It goes over each story once, and keeps nothing but the excerpts and the line of the present paragraph.
-pub fn excerpts(alloc: Global, pkg: &Package, index: &Index) -> Result<Vec<Excerpt>, AllocError>
-    ensures { IfOk result (λ excerpts. excerpts.items ≡ excerpts_of pkg.now index.now) }
+/// `wanted` says of each revision whether it is wanted; one of which it says nothing is not. The index is that of the package. It goes
+/// over each story once, keeps nothing but the excerpts and the line of the present paragraph, and makes no line of a paragraph in
+/// which nothing is wanted.
+pub fn excerpts(
+    alloc: Global,
+    pkg: &Package,
+    index: &Index,
+    wanted: &[bool],
+) -> Result<Vec<Option<Excerpt>>, AllocError>
+    ensures { IfOk result (λ excerpts. excerpts.items ≡ excerpts_of pkg.now index.now wanted.now) }
 {
     let revisions = index.revisions();
-    let mut excerpts = nothing_told(alloc, revisions)?;
+    let mut excerpts = wanted_excerpts(alloc, revisions, wanted)?;
     tell_stories(alloc, pkg, revisions, &mut excerpts)?;
     Ok(excerpts)
 }
 
-// An excerpt for each revision, to which nothing is told.
-fn nothing_told(alloc: Global, revisions: &[Revision]) -> Result<Vec<Excerpt>, AllocError>
-    ensures { IfOk result (λ excerpts. excerpts.items ≡ map (λ revision. nothing_told revision.kind) revisions.now) }
+// An excerpt for each revision that is wanted, to which nothing is told.
+fn wanted_excerpts(
+    alloc: Global,
+    revisions: &[Revision],
+    wanted: &[bool],
+) -> Result<Vec<Option<Excerpt>>, AllocError>
+    ensures { IfOk result (λ excerpts. excerpts.items ≡ map (wanted_nothing wanted.now) revisions.now) }
 {
     let mut excerpts = Vec::with_capacity(alloc, revisions.len())?;
     for revision in revisions {
-        excerpts.push(Excerpt::new(alloc, revision.kind)?)?;
+        excerpts.push(wanted_excerpt(alloc, revision, wanted)?)?;
     }
     Ok(excerpts)
+}
+
+fn wanted_excerpt(
+    alloc: Global,
+    revision: &Revision,
+    wanted: &[bool],
+) -> Result<Option<Excerpt>, AllocError>
+    ensures { IfOk result (λ excerpt. excerpt ≡ wanted_nothing wanted.now revision.now) }
+{
+    if !is_wanted(wanted, revision.number) {
+        return Ok(None);
+    }
+    let excerpt = Excerpt::new(alloc, revision.kind)?;
+    Ok(Some(excerpt))
+}
+
+fn is_wanted(wanted: &[bool], number: u32) -> bool
+    ensures { result ≡ is_wanted wanted.now number }
+{
+    if number == 0 {
+        return false;
+    }
+    match wanted.get(number as usize - 1) {
+        Some(wanted) => *wanted,
+        None => false,
+    }
 }
 
 fn tell_stories(
     alloc: Global,
     pkg: &Package,
     revisions: &[Revision],
-    excerpts: &mut Vec<Excerpt>,
+    excerpts: &mut Vec<Option<Excerpt>>,
 ) -> Result<(), AllocError>
     ensures { OnOk result (TellsEach excerpts.old.items excerpts.new.items (λ v. package_mentions (is_moved revisions.now v) v pkg.now)) }
 {
@@ -57,7 +95,7 @@ fn tell_part(
     pkg: &Package,
     part: u32,
     revisions: &[Revision],
-    excerpts: &mut Vec<Excerpt>,
+    excerpts: &mut Vec<Option<Excerpt>>,
 ) -> Result<(), AllocError>
     ensures { OnOk result (TellsEach excerpts.old.items excerpts.new.items (λ v. flat_map (λ story. mentions (is_moved revisions.now v) v outside story.kids) (stories_of_part pkg.now part))) }
 {
@@ -74,7 +112,7 @@ fn tell_story(
     alloc: Global,
     root: &Elem,
     revisions: &[Revision],
-    excerpts: &mut Vec<Excerpt>,
+    excerpts: &mut Vec<Option<Excerpt>>,
 ) -> Result<(), AllocError>
     ensures { OnOk result (TellsEach excerpts.old.items excerpts.new.items (λ v. mentions (is_moved revisions.now v) v outside (kids_of root.now))) }
 {

@@ -1,5 +1,6 @@
 -- An excerpt while members inside one of its own tell.
-use Rattle.std.specs.Prelude.{◌≡◌, ◌<◌, ◌≤◌, ◌∷◌, ℕ, true, false, List, [], None, if◌then◌else◌}
+use Rattle.std.specs.Prelude.{◌≡◌, ◌<◌, ◌≤◌, ◌∷◌, ℕ, true, false, List, [], Option, None, Some, if◌then◌else◌}
+use Rattle.std.specs.Option.{option_map}
 use Rattle.redl_changed.specs.Changed.{nothing_changed}
 use Rattle.redl_index.specs.declared.revision.Revision.{Revision}
 use Rattle.redl_tree.specs.Model.Nodes.{Nodes, Tag}
@@ -45,6 +46,18 @@ closed excerpt away behind = record {
   changed = away.changed;
   begun = true;
 }
+
+-- the same of an excerpt that is made
+abbrev pub opened_if : List ℕ → Option Excerpt → Option Excerpt
+opened_if words excerpt = option_map (λ excerpt. opened excerpt words) excerpt
+
+abbrev pub first_if : Mention → Option Excerpt → Option Away
+first_if mention excerpt = option_map (λ excerpt. first_of excerpt mention) excerpt
+
+abbrev pub closed_if : Option Excerpt → Option Away → List ℕ → Option Excerpt
+closed_if None away behind = None
+closed_if (Some excerpt) None behind = Some excerpt
+closed_if (Some excerpt) (Some away) behind = Some (closed excerpt away behind)
 
 -- An element at this place is a member of one of so many revisions that tells of what it holds, and an element of run content: no
 -- paragraph, no properties and no text, and it says nothing at its start tag.

@@ -1,5 +1,4 @@
-use Rattle.std.proofs.Common.{◌∙◌, ap, sym, length, refl}
-use Rattle.redl_commands_shown.specs.Shown.{shown_revisions}
+use Rattle.std.proofs.Common.{◌∙◌, ap, sym, length}
 use Rattle.redl_inputs.specs.Views.{admission_view}
 use Rattle.redl_commands_list.proofs.FormatLaws.{reads_listing, verdicts_for}
 use Rattle.redl_words.specs.Views.{onlys_view}
@@ -16,5 +15,5 @@ returns-clause-read g c =
     let told = c.in_ok-told.told in
     reads_listing (λ b. (goal.RowFormat-dyn g (b.vtable, b.value)).format_name b.value) (λ b. (goal.RowFormat-dyn g (b.vtable, b.value)).text_for b.value)
     c.args.name.now wanted (admission_view c.args.admitted) c.args.formats.now.items c.args.parts.now told.index told.verdicts.items told.details.items
-    (shown_revisions wanted told.index told.verdicts.items) c.in_ok-made.ensures.made.0 c.in_ok-made.made.items
-    c.requires.names c.in_ok-told.ensures.index c.in_ok-told.ensures.verdicts c.in_ok-told.ensures.details refl c.requires.there c.in_ok-made.ensures.made.1
+    told.shown.items c.in_ok-made.ensures.made.0 c.in_ok-made.made.items
+    c.requires.names c.in_ok-told.ensures.index c.in_ok-told.ensures.verdicts c.in_ok-told.ensures.details c.in_ok-told.ensures.shown c.requires.there c.in_ok-made.ensures.made.1

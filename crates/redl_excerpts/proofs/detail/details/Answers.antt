@@ -4,7 +4,7 @@ use Rattle.std.proofs.lemmas.List.{nil_from_length}
 use Rattle.std.proofs.lemmas.List.Elements.{All-push}
 use Rattle.std.specs.Vec.Iter.{into_iter_items}
 use Rattle.redl_join.specs.LastWords.{words_on}
-use Rattle.redl_excerpts.specs.Details.{IsDetail, detail_of, details_of}
+use Rattle.redl_excerpts.specs.Details.{IsDetail, detail_if, details_of}
 use Rattle.redl_excerpts.proofs.DetailLaws.{count-more, details-begun, details-done, details-more}
 use Rattle.redl_excerpts.proofs.detail.details.Goals as goal
 
@@ -29,7 +29,7 @@ loop-excerpt-preserved c =
     let size : c.len.result ≡ length before = omega (arith, c.len.ensures, c.loop-excerpt.details.ok.0) in
     record {
       all = details-more before c.push.new.self.items (details_of c.args.excerpts.items (words_on c.args.words.now)) (into_iter_items c.loop-excerpt.excerpt-iterator) rest (words_on c.args.words.now) excerpt detail here
-          (c.in_ok-detail.ensures.value ∙ ap (detail_of excerpt) c.on.ensures ∙ ap (λ n. detail_of excerpt (words_on c.args.words.now (n + 1))) size) c.in_ok-push.ensures.items c.loop-excerpt.invariant.all;
+          (c.in_ok-detail.ensures.value ∙ ap (detail_if excerpt) c.on.ensures ∙ ap (λ n. detail_if excerpt (words_on c.args.words.now (n + 1))) size) c.in_ok-push.ensures.items c.loop-excerpt.invariant.all;
       utf8 = subst (All IsDetail) (sym c.in_ok-push.ensures.items) (All-push IsDetail before detail c.loop-excerpt.invariant.utf8 c.in_ok-detail.ensures.utf8);
       within = count-more before c.push.new.self.items _ rest excerpt detail (2 ^ 32) here c.in_ok-push.ensures.items c.loop-excerpt.invariant.within;
     }

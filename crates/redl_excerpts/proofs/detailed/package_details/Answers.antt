@@ -9,4 +9,4 @@ use Rattle.redl_excerpts.proofs.detailed.package_details.Goals as goal
 pub returns-clause-value : goal.returns-clause-value
 returns-clause-value c =
     c.in_ok-details.ensures.value ∙ ap (λ xs. details_of xs (words_on c.in_ok-words.words)) c.in_ok-excerpts.ensures
-    ∙ details_from-same 1 (excerpts_of c.args.pkg.now c.args.index.now) (words_on c.in_ok-words.words) (last_words c.args.book.now) c.in_ok-words.ensures
+    ∙ details_from-same 1 (excerpts_of c.args.pkg.now c.args.index.now c.args.wanted.now) (words_on c.in_ok-words.words) (last_words c.args.book.now) c.in_ok-words.ensures

@@ -17,14 +17,14 @@ loop-end-preserved c =
     let x = c.index-nodes-end.result in
     let within : i < length nodes = omega (arith, c.loop-end.invariant.within, c.loop-end-test.true) in
     let next : end ≡ i + 1 = omega (arith, c.loop-end-test.true) in
-    let flat : is_flat (item_of x) ≡ true = sym c.is_flat.ensures ∙ c.if-is_flat.true in
+    let flat : is_flat c.args.excerpts.now (item_of x) ≡ true = sym c.is_flat.ensures ∙ c.if-is_flat.true in
     record {
       within = omega (arith, c.loop-end.invariant.within);
-      same = λ moved v here pos.
+      same = λ moved v here made.
           let tells = λ (xs : List Node). mentions moved v here (nodes_of xs) in
           sym (ap (λ n. tells (take n nodes)) next ∙ ap tells (take_more nodes i x within)
           ∙ ap (λ y. tells (take i nodes ++ y ∷ [])) (sym c.index-nodes-end.is)
           ∙ ap (mentions moved v here) (nodes_of-push (take i nodes) x)
-          ∙ mentions_before moved v here (nodes_of (take i nodes)) (item_of x) pos flat)
-          ∙ c.loop-end.invariant.same moved v here pos;
+          ∙ mentions_before c.args.excerpts.now moved v here (nodes_of (take i nodes)) (item_of x) made flat)
+          ∙ c.loop-end.invariant.same moved v here made;
     }

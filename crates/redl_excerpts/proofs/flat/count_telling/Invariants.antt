@@ -1,5 +1,6 @@
-use Rattle.std.proofs.Common.{◌≡◌, ◌<◌, ◌≤◌, ℕ, Bool, length, take}
+use Rattle.std.proofs.Common.{◌≡◌, ◌≤◌, ℕ, Bool, length, take, true}
 use Rattle.redl_tree.specs.Model.View.{nodes_of}
+use Rattle.redl_excerpts.specs.Excerpts.{is_made}
 use Rattle.redl_excerpts.specs.Mentions.{Where, mentions}
 use Rattle.redl_excerpts.proofs.flat.count_telling.Given as goal
 
@@ -7,7 +8,7 @@ use Rattle.redl_excerpts.proofs.flat.count_telling.Given as goal
 abbrev pub invariant-loop-end : goal.invariant-loop-end
 invariant-loop-end l = record {
   within : l.end ≤ length l.nodes;
-  same : (moved : Bool) (v : ℕ) (here : Where) → 0 < v → mentions moved v here (nodes_of (take l.end l.nodes)) ≡ mentions moved v here (nodes_of l.nodes);
+  same : (moved : Bool) (v : ℕ) (here : Where) → is_made l.excerpts v ≡ true → mentions moved v here (nodes_of (take l.end l.nodes)) ≡ mentions moved v here (nodes_of l.nodes);
 }
 
 abbrev pub decreases-loop-end : goal.decreases-loop-end

@@ -1,5 +1,5 @@
 -- Each node tells after those before it. It is long because a member tells its words and, as a paragraph, what is around it.
-use Rattle.std.proofs.Common.{◌≡◌, ◌<◌, ◌≤◌, ◌∙◌, ◌+◌, ◌-◌, ◌++◌, ℕ, zero, suc, List, [], ◌∷◌, append-nil, drop, length, take, refl, sym, ap, subst, arith, false, true}
+use Rattle.std.proofs.Common.{◌≡◌, ◌<◌, ◌≤◌, ◌∙◌, ◌+◌, ◌-◌, ◌++◌, ℕ, zero, suc, List, Option, [], ◌∷◌, append-nil, drop, length, take, refl, sym, ap, subst, arith, false, true}
 use Rattle.std.proofs.Math.ListN.{set}
 use Rattle.std.proofs.lemmas.Option.{slice_get_read}
 use denote.Param.Weighed.{most}
@@ -8,14 +8,16 @@ use Rattle.redl_tree.specs.declared.node.Node.{Node, size-Node}
 use Rattle.redl_tree.proofs.Model.Laws.{nodes_here}
 use Rattle.redl_excerpts.specs.Ears.{along-more}
 use Rattle.redl_excerpts.specs.Excerpts.{TellsEach, is_moved}
-use Rattle.redl_excerpts.specs.Inside.Around.{closed, first_of}
+use Rattle.redl_excerpts.specs.declared.excerpt.Excerpt.{Excerpt}
+use Rattle.redl_excerpts.specs.Inside.Around.{closed_if, first_if}
+use Rattle.redl_excerpts.specs.Inside.Flat.{are_flat}
 use Rattle.redl_excerpts.specs.Lines.{along, behind}
 use Rattle.redl_excerpts.specs.Mentions.{Mention, Where, element_mentions, inside, item_mentions, member_told, mentions, stretch_in}
 use Rattle.redl_excerpts.specs.Said.{item_said, said}
 use Rattle.redl_excerpts.specs.Inside.Views.{where_of}
 use Rattle.redl_excerpts.proofs.FlatLaws.{flat_mentions}
 use Rattle.redl_excerpts.proofs.AroundLaws.{inside-around, member-around, tells-around, tells-keep}
-use Rattle.redl_excerpts.proofs.TellLaws.{tells-as, tells-from_one}
+use Rattle.redl_excerpts.proofs.TellLaws.{made-still, tells-as, tells-where_made}
 use Rattle.redl_excerpts.proofs.MemberLaws.{mentions-in_front, tells-begins, tells-goes_on}
 use Rattle.redl_excerpts.proofs.SaidLaws.{said-in_front}
 use Rattle.redl_excerpts.proofs.members.+members.Goals as goal
@@ -53,9 +55,11 @@ tell_member_elem-returns-in-Some-clause-told t c =
     let kids = kids_of c.args.elem.now in
     let here = where_of c.args.here c.args.place in
     let moved = λ (v : ℕ). is_moved c.args.revisions.now v in
-    tells-from_one c.args.excerpts.now.items c.tell_member.new.excerpts.items (λ v. member_told (moved v) v here tag kids) (λ v. element_mentions (moved v) v here tag kids)
-    (λ v pos. sym (append-nil (member_told (moved v) v here tag kids))
-    ∙ ap (λ (ms : List Mention). member_told (moved v) v here tag kids ++ ms) (sym (flat_mentions (moved v) v (inside here tag kids) kids pos (c.in-Some.ensures.flat refl))))
+    tells-where_made c.args.excerpts.now.items c.tell_member.new.excerpts.items (λ v. member_told (moved v) v here tag kids) (λ v. element_mentions (moved v) v here tag kids)
+    (λ v made. sym (append-nil (member_told (moved v) v here tag kids))
+    ∙ ap (λ (ms : List Mention). member_told (moved v) v here tag kids ++ ms) (sym (flat_mentions c.tell_member.new.excerpts.items (moved v) v (inside here tag kids) kids
+    (made-still c.args.excerpts.now.items c.tell_member.new.excerpts.items (λ v. member_told (moved v) v here tag kids) c.in_ok-end.ensures.told v ∙ made)
+    (subst (λ (excerpts : List (Option Excerpt)). are_flat excerpts kids ≡ true) c.deref-2.ensures.value (c.in-Some.ensures.flat refl)))))
     c.in_ok-end.ensures.told
 
 -- the first nodes are no deeper than all
@@ -77,7 +81,7 @@ tell_around-index_mut-requires-2 t c =
     let there : Where = record { in_text = false; siblings = below; owner = below; owner_place = c.args.place; place = c.args.place; whole = c.args.here.whole.now } in
     let inner : ℕ → List Mention = λ v. mentions (is_moved c.args.revisions.now v) v there below in
     let bound : at < length c.args.excerpts.now.items = omega (arith, c.rev.ensures, c.requires.around.numbered, c.requires.around.within) in
-    let kept : at < length c.tell_members.new.excerpts.items = tells-keep c.args.excerpts.now.items c.tell_members.new.excerpts.items at c.begin_around.new.self inner bound c.in_ok-end.ensures.told in
+    let kept : at < length c.tell_members.new.excerpts.items = tells-keep c.args.excerpts.now.items c.tell_members.new.excerpts.items at c.begin_around.new.excerpt inner bound c.in_ok-end.ensures.told in
     omega (arith, kept, c.tell_members.new.excerpts.ok.0)
 
 pub tell_around-returns-clause-told : goal.tell_around-returns-clause-told
@@ -97,16 +101,16 @@ tell_around-returns-clause-told t c =
     let inner : ℕ → List Mention = λ v. mentions (moved v) v there below in
     let bound : at < length old = omega (arith, c.rev.ensures, around.numbered, around.within) in
     let number : suc at ≡ tag.rev = omega (arith, c.rev.ensures, around.numbered) in
-    let kept : at < length mid = tells-keep old mid at c.begin_around.new.self inner bound c.in_ok-end.ensures.told in
+    let kept : at < length mid = tells-keep old mid at c.begin_around.new.excerpt inner bound c.in_ok-end.ensures.told in
     let found = slice_get_read old (length old) at c.index_mut.result.now refl bound c.index_mut.ensures.value in
     let within = slice_get_read mid (length mid) at c.index_mut-2.result.now refl kept c.index_mut-2.ensures.value in
     let opened_told = subst (λ x. TellsEach (set old at x) mid inner) c.in_ok-away.ensures.opened c.in_ok-end.ensures.told in
     let end : c.in_ok-end.end ≡ along here.place (said true false kids) = c.in_ok-end.ensures.place ∙ ap (λ ns. along here.place (said true false ns)) c.kids-held.ensures.kids in
-    let is : c.end_around.new.self ≡ closed c.index_mut-2.result.now (first_of c.index_mut.result.now own) own.behind =
-    c.in_ok-end_around.ensures ∙ ap (λ a. closed c.index_mut-2.result.now a (behind here.whole c.in_ok-end.end)) c.in_ok-away.ensures.away
-    ∙ ap (λ p. closed c.index_mut-2.result.now (first_of c.index_mut.result.now own) (behind here.whole p)) end in
+    let is : c.end_around.new.excerpt ≡ closed_if c.index_mut-2.result.now (first_if own c.index_mut.result.now) own.behind =
+    c.in_ok-end_around.ensures ∙ ap (λ a. closed_if c.index_mut-2.result.now a (behind here.whole c.in_ok-end.end)) c.in_ok-away.ensures.away
+    ∙ ap (λ p. closed_if c.index_mut-2.result.now (first_if own c.index_mut.result.now) (behind here.whole p)) end in
     let inside_is = inside-around c.args.revisions.now (length old) here tag kids below around c.kids-held.ensures.kids in
-    tells-as old (set mid at c.end_around.new.self) (λ v. first v ++ inner v) (λ v. element_mentions (moved v) v here tag kids)
+    tells-as old (set mid at c.end_around.new.excerpt) (λ v. first v ++ inner v) (λ v. element_mentions (moved v) v here tag kids)
     (λ v. ap (λ w. first v ++ mentions (moved v) v w below) inside_is ∙ ap (λ ns. first v ++ mentions (moved v) v (inside here tag kids) ns) c.kids-held.ensures.kids)
-    (tells-around old mid at c.index_mut.result.now c.index_mut-2.result.now c.end_around.new.self own first inner bound found opened_told within
+    (tells-around old mid at c.index_mut.result.now c.index_mut-2.result.now c.end_around.new.excerpt own first inner bound found opened_told within
     (member-around c.args.revisions.now at (length old) here tag kids around number) is)

@@ -3,7 +3,7 @@ use Rattle.std.proofs.Common.{◌<◌, ◌≤◌, ◌-◌, ℕ, length, inl, inr
 use Rattle.std.proofs.Math.ListN.{set}
 use Rattle.std.proofs.lemmas.Option.{slice_get_read}
 use Rattle.redl_tree.specs.Model.View.{tag_of, kids_of}
-use Rattle.redl_excerpts.specs.Excerpts.{TellsEach, is_moved, told_all}
+use Rattle.redl_excerpts.specs.Excerpts.{TellsEach, is_moved, told_if_made}
 use Rattle.redl_excerpts.specs.Mentions.{told_by}
 use Rattle.redl_excerpts.specs.Inside.Views.{where_of}
 use Rattle.redl_excerpts.proofs.TellLaws.{tells-at, tells-none, where_it_is}
@@ -31,6 +31,6 @@ returns-clause-told c =
     let within : number ≤ length old = omega (arith, c.if-len-number.false, c.len.ensures, c.args.excerpts.now.ok.0) in
     let before : number - 1 < length old = omega (arith, pos, within) in
     let at = slice_get_read old (length old) (number - 1) c.index_mut.result.now refl before c.index_mut.ensures.value in
-    let is = c.in_ok-end.ensures.told ∙ ap (λ b. told_all c.index_mut.result.now (told_by b (where_of c.args.here c.args.place) tag.kind tag (kids_of c.args.elem.now))) c.is_moved-moved.ensures in
-    subst (λ n. TellsEach old (set old (number - 1) c.tell_kind.new.excerpt) (λ v. where_it_is n v (mentions_of v))) c.rev-number.ensures
-    (tells-at old number c.index_mut.result.now mentions_of c.tell_kind.new.excerpt pos within at is)
+    let is = c.in_ok-end.ensures.told ∙ ap (λ b. told_if_made (told_by b (where_of c.args.here c.args.place) tag.kind tag (kids_of c.args.elem.now)) c.index_mut.result.now) c.is_moved-moved.ensures in
+    subst (λ n. TellsEach old (set old (number - 1) c.tell_if_made.new.excerpt) (λ v. where_it_is n v (mentions_of v))) c.rev-number.ensures
+    (tells-at old number c.index_mut.result.now mentions_of c.tell_if_made.new.excerpt pos within at is)

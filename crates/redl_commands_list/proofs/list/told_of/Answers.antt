@@ -1,0 +1,8 @@
+use Rattle.std.proofs.Common.{◌∙◌, ap, sym, length}
+use Rattle.redl_commands_list.proofs.FormatLaws.{verdicts_for}
+use Rattle.redl_commands_list.proofs.list.told_of.Goals as goal
+
+pub shown_revisions-requires : goal.shown_revisions-requires
+shown_revisions-requires c =
+    let state = c.args.session in
+    ap length c.deref.ensures.value ∙ verdicts_for state.book (length state.revisions) c.in_ok-verdicts.verdicts.items c.in_ok-verdicts.ensures ∙ sym (ap length (c.revisions.ensures.value ∙ c.index.ensures))
