@@ -1,7 +1,7 @@
 //! `list P` with a format, journals and locks, of all revisions or of those alone that are wanted.
 
 ghost use Rattle.std.specs.Prelude.{◌≡◌, ◌⊎◌, ◌<◌, Bool, true, [], length, slice_get, Ok, Some, All, IsUtf8, IfOk, OnErr, OnOk, if◌then◌else◌};
-ghost use Rattle.redl_commands_shown.specs.List.{listed, listing_named, part_names, session_details, session_shown, session_verdicts, shows_details};
+ghost use Rattle.redl_commands_shown.specs.List.{listed, listing_named, part_names, session_details, session_shown, session_verdicts};
 ghost use Rattle.redl_commands_shown.specs.Formats.{AreFresh, LeavesFormats, format_named, formats_by, whether};
 ghost use Rattle.redl_inputs.specs.Reading.{ReadsFiles, Reads};
 ghost use Rattle.redl_commands.specs.Views.{writing_view};
@@ -9,7 +9,7 @@ ghost use Rattle.redl_inputs.specs.Views.{admission_view, result_view};
 ghost use Rattle.redl_commands.specs.Writing.{outcome_of};
 ghost use Rattle.redl_excerpts.specs.Details.{IsDetail, package_details};
 ghost use Rattle.redl_formats.specs.Formats.{IsListed, first_named, without_named};
-ghost use Rattle.redl_listing.specs.Rows.{shown_rows, told_rows};
+ghost use Rattle.redl_listing.specs.Rows.{shown_rows, shows_details, told_rows};
 ghost use Rattle.redl_opc.specs.Shape.{parts_of};
 ghost use Rattle.redl_words.specs.Views.{onlys_view};
 
@@ -21,7 +21,7 @@ use redl_inputs::{Admitted, name_of, open_package, read_package};
 use redl_io::{Shelf, Text};
 use redl_join::Verdict;
 use redl_lines::Failure;
-use redl_listing::{RowFormat, list_told};
+use redl_listing::{Listed, RowFormat, list_told, shows_details};
 use redl_opc::Package;
 use redl_session::Session;
 use redl_words::{ListCommand, Only};
@@ -172,9 +172,13 @@ fn make_listing(
         details,
     } = told;
     let mut made = Vec::new(alloc);
-    let _ = list_told(
-        alloc, formats, name, parts, &index, &verdicts, details, &shown, &mut made,
-    )?;
+    let listed = Listed {
+        parts,
+        index: &index,
+        verdicts: &verdicts,
+        shown: &shown,
+    };
+    let _ = list_told(alloc, formats, name, &listed, details, &mut made)?;
     Ok(made)
 }
 
@@ -200,11 +204,4 @@ fn details_of(
         session.book(),
     )?;
     Ok(details)
-}
-
-// Whether the format with this name shows details.
-fn shows_details(name: &str) -> bool
-    ensures { result ≡ shows_details name.now }
-{
-    name == "words" || name == "full"
 }

@@ -1,5 +1,5 @@
 -- `list P` with a format, journals and locks: a row for each revision that is shown, with the verdict on it.
-use Rattle.std.specs.Prelude.{ℕ, ◌||◌, Bool, List, [], map, length, codes, bytes_eq, if◌then◌else◌, Result, Ok}
+use Rattle.std.specs.Prelude.{ℕ, Bool, List, [], map, length, if◌then◌else◌, Result, Ok}
 use Rattle.redl_inputs.specs.Admission.{Admission, opened}
 use Rattle.redl_commands_shown.specs.Shown.{shown_revisions}
 use Rattle.redl_commands_shown.specs.Formats.{Format, format_named}
@@ -11,7 +11,7 @@ use Rattle.redl_excerpts.specs.Details.{package_details}
 use Rattle.redl_io.specs.Shelf.{Files}
 use Rattle.redl_join.specs.declared.verdict.Verdict.{Verdict}
 use Rattle.redl_lines.specs.Failures.{Failure}
-use Rattle.redl_listing.specs.Rows.{shown_rows, told_rows}
+use Rattle.redl_listing.specs.Rows.{shown_rows, shows_details, told_rows}
 use Rattle.redl_listing.specs.declared.row.Row.{Row}
 use Rattle.redl_opc.specs.Parts.{name_in}
 use Rattle.redl_opc.specs.Shape.{parts_of}
@@ -24,10 +24,6 @@ use Rattle.redl_words.specs.Shown.{Only}
 -- the decoded names of the parts of a package
 abbrev pub part_names : Nodes → List (List ℕ)
 part_names nodes = map (λ part. name_in part.tag) (parts_of nodes)
-
--- the formats that show details
-abbrev pub shows_details : List ℕ → Bool
-shows_details name = bytes_eq name (codes "words") || bytes_eq name (codes "full")
 
 -- the verdicts of a session's book
 abbrev pub session_verdicts : SessionState → List Verdict

@@ -1,5 +1,5 @@
 -- The rows of a listing: what it says of each revision (our own rule).
-use Rattle.std.specs.Prelude.{ℕ, Bool, true, List, [], ◌∷◌, IsTrue, IfSome, if◌then◌else◌, unwrap_or, slice_get}
+use Rattle.std.specs.Prelude.{ℕ, ◌||◌, Bool, true, List, [], ◌∷◌, IsTrue, IfSome, bytes_eq, codes, if◌then◌else◌, unwrap_or, slice_get}
 use Rattle.std.specs.Str.{IsUtf8}
 use Rattle.redl_excerpts.specs.declared.detail.Detail.{Detail}
 use Rattle.redl_excerpts.specs.Details.{IsDetail, no_detail}
@@ -7,6 +7,7 @@ use Rattle.redl_stamp.specs.Moment.{IsMoment}
 use Rattle.redl_kinds.specs.Kinds.{is_named}
 use Rattle.redl_index.specs.declared.revision.Revision.{Revision}
 use Rattle.redl_join.specs.declared.verdict.Verdict.{Verdict}
+use Rattle.redl_listing.specs.declared.listing.Listed.{Listed}
 use Rattle.redl_listing.specs.declared.row.Row.{Row}
 
 -- what a row keeps: its kind has a name, its texts are UTF-8, and its moment lies in the years 0000 to 9999
@@ -16,6 +17,10 @@ pub record IsRow (row : Row) : Type 0 where
   pub part : IsUtf8 row.part
   pub moment : IfSome row.seconds IsMoment
   pub detail : IsDetail row.detail
+
+-- the formats of the program that show details
+abbrev pub shows_details : List ℕ → Bool
+shows_details name = bytes_eq name (codes "words") || bytes_eq name (codes "full")
 
 -- the row of a revision on which this was decided, with this detail, where these are the names of the parts
 abbrev pub told_row : List (List ℕ) → Revision → Verdict → Detail → Row
@@ -65,3 +70,7 @@ shown_rows shown (row ∷ rows) = if first_shown shown then row ∷ shown_rows (
 -- all rows, without details
 abbrev pub rows_of : List (List ℕ) → List Revision → List Verdict → List Row
 rows_of parts revisions verdicts = told_rows parts revisions verdicts []
+
+-- the rows of what is listed, with these details
+abbrev pub listed_rows : Listed → List Detail → List Row
+listed_rows listed details = shown_rows listed.shown.now (told_rows listed.parts.now listed.index.now listed.verdicts.now details)

@@ -2,7 +2,7 @@
 
 ghost use Rattle.std.specs.Prelude.{◌≡◌, ◌++◌, ◌∷◌, [], List, ℕ, Bool, true, false, OnOk, OnErr};
 ghost use Rattle.redl_formats.specs.Formats.{lines_of, array_of};
-ghost use Rattle.redl_listing.specs.Rows.{IsRow};
+ghost use Rattle.redl_listing.specs.Rows.{IsRow, shows_details};
 ghost use Rattle.redl_listing.specs.declared.row.Row.{Row};
 
 use crate::full_rows::FullRows;
@@ -29,6 +29,13 @@ pub type JsonFormat = ArrayFormat<Row, JsonRows>;
 
 /// The format `full`.
 pub type FullFormat = ArrayFormat<Row, FullRows>;
+
+/// Whether the format of the program with this name shows details.
+pub fn shows_details(name: &str) -> bool
+    ensures { result ≡ shows_details name.now }
+{
+    name == "words" || name == "full"
+}
 
 /// A row was not taken, since an allocation failed.
 #[derive(Clone, Copy, Debug, PartialEq, Eq, thiserror::Error)]

@@ -19,10 +19,12 @@ mod tab_rows;
 mod text_rows;
 mod words_rows;
 
-pub use format::{FullFormat, JsonFormat, RowError, RowFormat, TabFormat, TextFormat, WordsFormat};
+pub use format::{
+    FullFormat, JsonFormat, RowError, RowFormat, TabFormat, TextFormat, WordsFormat, shows_details,
+};
 pub use full_rows::FullRows;
 pub use json_rows::JsonRows;
-pub use listing::{add_format, list, list_told};
+pub use listing::{Listed, add_format, list, list_told};
 pub use named::{Named, has_name, take_named};
 pub use row::Row;
 pub use tab_rows::TabRows;

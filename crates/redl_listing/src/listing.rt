@@ -1,10 +1,8 @@
 //! Listing revisions in a format.
 
-ghost use Rattle.std.specs.Prelude.{◌≡◌, ◌+◌, ◌++◌, ◌∷◌, ◌<◌, ◌↔◌, [], All, Bool, List, drop, length, true, false, IfOk, IsTrue, OnOk, OnErr, if◌then◌else◌};
+ghost use Rattle.std.specs.Prelude.{◌≡◌, ◌+◌, ◌++◌, ◌∷◌, ◌<◌, [], All, Bool, List, drop, length, true, false, IfOk, OnOk, OnErr};
 ghost use Rattle.std.specs.Str.{IsUtf8};
-ghost use Rattle.redl_index.specs.Revisions.{IsListable};
-ghost use Rattle.redl_index.specs.declared.revision.Revision.{Revision};
-ghost use Rattle.redl_listing.specs.Rows.{IsRow, first_detail, first_shown, rows_of, shown_rows, told_row, told_rows};
+ghost use Rattle.redl_listing.specs.Rows.{IsRow, first_detail, first_shown, listed_rows, rows_of};
 ghost use Rattle.redl_excerpts.specs.Details.{IsDetail};
 ghost use Rattle.redl_formats.specs.Formats.{first_named, without_named, IsListed};
 ghost use Rattle.redl_listing.specs.declared.row.Row.{Row};
@@ -13,7 +11,7 @@ use crate::format::{RowError, RowFormat};
 use crate::named::take_named;
 use crate::row::Row;
 use redl_excerpts::Detail;
-use redl_index::{Index, Revision};
+use redl_index::Index;
 use redl_io::Text;
 use redl_join::Verdict;
 use std::alloc::{AllocError, Global};
@@ -32,6 +30,19 @@ pub fn add_format(
 {
     formats.push(format)?;
     Ok(())
+}
+
+/// What is listed: the revisions of a package, and what is known of each in the order of their numbers.
+#[derive(Clone, Copy)]
+pub struct Listed<'a> {
+    /// The name of each part that a revision is in. Each name is UTF-8.
+    pub parts: &'a [Text],
+    /// The revisions.
+    pub index: &'a Index,
+    /// What was decided on each.
+    pub verdicts: &'a [Verdict],
+    /// Whether each is shown. One of which nothing is said is.
+    pub shown: &'a [bool],
 }
 
 /// Makes the listing of the revisions in the format with this name, and says whether there is one.
@@ -68,44 +79,36 @@ pub fn list(
     ensures taken { formats.new.items ≡ without_named (λ format. format_name format) name.now formats.old.items }
     ensures unchanged { IfOk result (λ found. found ≡ false → formats.new.items ≡ formats.old.items) }
 {
-    let shown = Vec::new(alloc);
-    list_told(
-        alloc,
-        formats,
-        name,
-        pkg_names,
+    let listed = Listed {
+        parts: pkg_names,
         index,
         verdicts,
-        Vec::new(alloc),
-        &shown,
-        made,
-    )
+        shown: &[],
+    };
+    list_told(alloc, formats, name, &listed, Vec::new(alloc), made)
 }
 
-/// The same of the revisions that are shown alone, with their details. Both are in the order of numbers: `shown` says of each revision
-/// whether it is shown, and one of which it says nothing is; a row whose detail is missing has none.
+/// The same of the revisions that are shown alone, with their details in the order of numbers. A row whose detail is missing has
+/// none.
 pub fn list_told(
     alloc: Global,
     formats: &mut Vec<Box<dyn RowFormat>>,
     name: &str,
-    pkg_names: &[Text],
-    index: &Index,
-    verdicts: &[Verdict],
+    listed: &Listed<'_>,
     details: Vec<Detail>,
-    shown: &[bool],
     made: &mut Vec<u8>,
 ) -> Result<bool, AllocError>
     requires empty { made.old.items ≡ [] }
-    requires names { All IsUtf8 pkg_names.now }
-    requires parts { All (λ revision. revision.part < length pkg_names.now) index.now }
-    requires verdicts { length verdicts.now ≡ length index.now }
+    requires names { All IsUtf8 listed.now.parts.now }
+    requires parts { All (λ revision. revision.part < length listed.now.parts.now) listed.now.index.now }
+    requires verdicts { length listed.now.verdicts.now ≡ length listed.now.index.now }
     requires details { All IsDetail details.items }
     requires fresh { All (λ format. (is_closed format ≡ false) × (rows_so_far format ≡ [])) formats.old.items }
 
     // The first format with the name made the text of the rows that are shown, or there is none.
     ensures listed { IfOk result (λ found. IsListed
         (first_named (λ format. format_name format) name.now formats.old.items)
-        (λ format. text_for format (shown_rows shown.now (told_rows pkg_names.now index.now verdicts.now details.items)) true)
+        (λ format. text_for format (listed_rows listed.now details.items) true)
         found made.new.items) }
     ensures unmade { OnErr result (made.new.items ≡ []) }
 
@@ -117,15 +120,7 @@ pub fn list_told(
         return Ok(false);
     };
     let mut details = details;
-    add_rows(
-        alloc,
-        &mut format,
-        pkg_names,
-        index.revisions(),
-        verdicts,
-        &mut details,
-        shown,
-    )?;
+    add_rows(alloc, &mut format, listed, &mut details)?;
     finish(&mut format, made)?;
     Ok(true)
 }
@@ -134,62 +129,28 @@ pub fn list_told(
 fn add_rows(
     alloc: Global,
     format: &mut Box<dyn RowFormat>,
-    parts: &[Text],
-    revisions: &[Revision],
-    verdicts: &[Verdict],
+    listed: &Listed<'_>,
     details: &mut Vec<Detail>,
-    shown: &[bool],
 ) -> Result<(), AllocError>
-    requires names { All IsUtf8 parts.now }
-    requires told { All IsListable revisions.now }
-    requires parts { All (λ revision. revision.part < length parts.now) revisions.now }
-    requires verdicts { length verdicts.now ≡ length revisions.now }
+    requires names { All IsUtf8 listed.now.parts.now }
+    requires parts { All (λ revision. revision.part < length listed.now.parts.now) listed.now.index.now }
+    requires verdicts { length listed.now.verdicts.now ≡ length listed.now.index.now }
     requires details { All IsDetail details.old.items }
     requires open { is_closed format.old ≡ false }
-    ensures rows { OnOk result (rows_so_far format.new ≡ rows_so_far format.old ++ shown_rows shown.now (told_rows parts.now revisions.now verdicts.now details.old.items)) }
+    ensures rows { OnOk result (rows_so_far format.new ≡ rows_so_far format.old ++ listed_rows listed.now details.old.items) }
     ensures open { OnOk result (is_closed format.new ≡ false) }
     ensures same_format { OnOk result ((rows : List Row) → text_for format.new rows true ≡ text_for format.old rows true) }
 {
+    let revisions = listed.index.revisions();
     for place in 0..revisions.len() {
         let detail = take_detail(alloc, details, place)?;
-        let is_shown = is_shown(shown, place);
-        add_if(
-            alloc,
-            format,
-            &revisions[place],
-            verdicts[place],
-            parts,
-            detail,
-            is_shown,
-        )?;
+        if is_shown(listed.shown, place) {
+            let verdict = listed.verdicts[place];
+            let row = Row::of(alloc, &revisions[place], verdict, listed.parts, detail)?;
+            add_row(format, row)?;
+        }
     }
     Ok(())
-}
-
-// Gives the format the row of a revision, if it is shown.
-fn add_if(
-    alloc: Global,
-    format: &mut Box<dyn RowFormat>,
-    revision: &Revision,
-    verdict: Verdict,
-    parts: &[Text],
-    detail: Detail,
-    is_shown: bool,
-) -> Result<(), AllocError>
-    requires names { All IsUtf8 parts.now }
-    requires told { IsListable revision.now }
-    requires part { revision.now.part < length parts.now }
-    requires detail { IsDetail detail }
-    requires open { is_closed format.old ≡ false }
-    ensures rows { OnOk result (rows_so_far format.new ≡ rows_so_far format.old ++ (if is_shown then told_row parts.now revision.now verdict detail ∷ [] else [])) }
-    ensures open { OnOk result (is_closed format.new ≡ false) }
-    ensures same_format { OnOk result ((rows : List Row) (closed : Bool) → text_for format.new rows closed ≡ text_for format.old rows closed) }
-{
-    if !is_shown {
-        return Ok(());
-    }
-    let row = Row::of(alloc, revision, verdict, parts, detail)?;
-    add_row(format, row)
 }
 
 // Whether the row at this place is shown.

@@ -5,4 +5,4 @@ use Rattle.redl_listing.proofs.listing.list.Goals as goal
 
 pub returns-clause-listed : goal.returns-clause-listed
 returns-clause-listed g c =
-    rw (c.deref.ensures.value, c.new-shown.ensures.items, c.new.ensures.items, shown_rows-all (rows_of c.args.pkg_names.now c.args.index.now c.args.verdicts.now)) at c.list_told.ensures.listed
+    rw (c.new.ensures.items, shown_rows-all (rows_of c.args.pkg_names.now c.args.index.now c.args.verdicts.now)) at c.list_told.ensures.listed
