@@ -2,7 +2,7 @@
 //! value and said in words.
 //!
 //! Read `changes_between` first. A property is known by its path, as `vanish` or `pBdr/top`, or by its path and an attribute, as
-//! `ind@left`. `PROPERTIES` has those that have a name; `property.rt` is made by `tools/properties`.
+//! `ind@left`. `PROPERTIES` has those that have a name; `property.rt`, `path.rt`, `name.rt` and `way.rt` are made by `tools/properties`.
 //! How leaves come from the nodes of a document is left to the crate above.
 #![tactic(auto)]
 
@@ -12,10 +12,13 @@ mod change;
 mod changes;
 mod leaves;
 mod line;
+mod name;
+mod path;
 mod property;
 mod said;
 mod utf8;
 mod value;
+mod way;
 mod whole;
 
 pub use attribute::{Attribute, Attributes, Leaf, Leaves};
