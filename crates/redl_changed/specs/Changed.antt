@@ -1,5 +1,5 @@
 -- What a change of properties changes: the properties that differ between the former list in it and the present list that it stands in.
-use Rattle.std.specs.Prelude.{ℕ, ◌-◌, ◌||◌, Bool, List, [], ◌++◌, length, codes, Option, None, Some, if◌then◌else◌}
+use Rattle.std.specs.Prelude.{◌-◌, ◌||◌, Bool, List, [], ◌++◌, length, codes, None, Some, if◌then◌else◌}
 use Rattle.redl_properties.specs.Changes.{changes_between, first_changes}
 use Rattle.redl_properties.specs.Lines.{line_of}
 use Rattle.redl_properties.specs.declared.change.Changed.{Changed}

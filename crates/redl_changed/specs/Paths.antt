@@ -1,5 +1,5 @@
 -- Names in lists of properties: which elements are left out, the path of an element, and the names of attributes.
-use Rattle.std.specs.Prelude.{ℕ, ◌-◌, ◌&&◌, ◌||◌, Bool, true, false, List, [], ◌∷◌, ◌++◌, drop, take, length, bytes_eq, codes, Option, None, Some, if◌then◌else◌}
+use Rattle.std.specs.Prelude.{ℕ, ◌-◌, ◌&&◌, ◌||◌, Bool, false, List, [], ◌∷◌, ◌++◌, drop, take, length, bytes_eq, codes, Option, None, Some, if◌then◌else◌}
 use Rattle.redl_reading.specs.Lists.{behind}
 use Rattle.redl_tree.specs.Roles.Names.{is_w}
 use Rattle.redl_tree.specs.declared.kinds.Prop.{Prop}

@@ -1,11 +1,8 @@
 //! One leaf.
 
-ghost use Rattle.std.specs.Prelude.{◌≡◌, [], IfOk, OnOk, bytes_eq};
-ghost use Rattle.std.specs.List.{list_any};
+ghost use Rattle.std.specs.Prelude.{◌≡◌, [], IfOk, OnOk};
 ghost use Rattle.redl_markup.specs.Attributes.{attributes_of};
-ghost use Rattle.redl_markup.specs.Decoding.{decoded_value};
 ghost use Rattle.redl_markup.specs.Views.{attribute_view};
-ghost use Rattle.redl_properties.specs.Utf8.{text_or_nothing};
 ghost use Rattle.redl_changed.specs.Kept.{with_leaf};
 ghost use Rattle.redl_changed.specs.Leaves.{attribute_of, attributes_kept, has_name, is_declaration, is_small, leaf_of, with_attribute};
 ghost use Rattle.redl_properties.specs.declared.attribute.Attribute.{Attribute};

@@ -13,7 +13,7 @@ use Rattle.redl_properties.specs.declared.attribute.Attribute.{Attribute}
 use Rattle.redl_properties.specs.declared.attribute.Leaf.{Leaf}
 use Rattle.redl_properties.specs.declared.change.Changed.{Changed}
 use Rattle.redl_properties.specs.declared.property.Way.TheVariants.{Border, Toggle, Width}
-use Rattle.redl_properties.specs.declared.value.Value.TheVariants.{Absent, Text, Leaves}
+use Rattle.redl_properties.specs.declared.value.Value.TheVariants.{Absent, Text}
 
 -- an attribute, and the leaf of an element without attributes
 val : List ℕ → Attribute

@@ -1,5 +1,5 @@
 -- The changed properties of a change in one line of words: four of them, and how many more there are.
-use Rattle.std.specs.Prelude.{ℕ, zero, suc, ◌-◌, ◌&&◌, ◌||◌, nat_lt, min, Bool, true, false, List, [], ◌∷◌, ◌++◌, length, slice_get, bytes_eq, codes, decimal, unwrap_or, Option, None, Some, if◌then◌else◌}
+use Rattle.std.specs.Prelude.{ℕ, zero, suc, ◌-◌, ◌&&◌, ◌||◌, nat_lt, min, Bool, false, List, [], ◌∷◌, ◌++◌, length, slice_get, bytes_eq, codes, decimal, unwrap_or, Option, None, Some, if◌then◌else◌}
 use Rattle.std.specs.List.{flat_map, list_all, list_any}
 use Rattle.redl_properties.specs.Names.{is_of_language as is_language}
 use Rattle.redl_properties.specs.Said.{between, property_at}

@@ -1,5 +1,5 @@
 -- Values of properties: which are the same.
-use Rattle.std.specs.Prelude.{ℕ, zero, suc, ◌==◌, ◌&&◌, Bool, true, false, List, length, slice_get, bytes_eq, Option, None, Some}
+use Rattle.std.specs.Prelude.{ℕ, zero, suc, ◌==◌, ◌&&◌, Bool, true, false, List, length, slice_get, bytes_eq, Option, Some}
 use Rattle.redl_properties.specs.declared.attribute.Attribute.{Attribute}
 use Rattle.redl_properties.specs.declared.value.Value.{Value}
 use Rattle.redl_properties.specs.declared.value.Value.TheVariants.{Absent, Text, Leaves}

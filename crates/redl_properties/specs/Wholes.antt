@@ -1,5 +1,5 @@
 -- The values of properties that are said whole. Of several elements the last one counts, but tab stops and columns are lists.
-use Rattle.std.specs.Prelude.{ℕ, ◌-◌, ◌||◌, Bool, true, false, List, [], ◌∷◌, length, slice_get, bytes_eq, codes, Option, None, Some, if◌then◌else◌}
+use Rattle.std.specs.Prelude.{ℕ, ◌-◌, ◌||◌, Bool, true, false, List, [], ◌∷◌, length, slice_get, bytes_eq, codes, Option, None, Some}
 use Rattle.redl_properties.specs.Leaves.{last_value}
 use Rattle.redl_properties.specs.declared.attribute.Attribute.{Attribute}
 use Rattle.redl_properties.specs.declared.property.Way.{Way}

@@ -1,8 +1,7 @@
 //! Numbers, and amounts in words.
 
-ghost use Rattle.std.specs.Prelude.{◌≡◌, ◌<◌, ◌≤◌, ◌^◌, ◌++◌, ◌∷◌, [], IfSome, OnOk, Some, decimal};
-ghost use Rattle.std.specs.Option.{option_map};
-ghost use Rattle.redl_properties.specs.Amounts.{amount, fraction, hundredths, measured, natural, number_in, read, read_upto, sign, with_sign};
+ghost use Rattle.std.specs.Prelude.{◌≡◌, ◌<◌, ◌++◌, OnOk, Some, decimal};
+ghost use Rattle.redl_properties.specs.Amounts.{amount, fraction, hundredths, measured, natural, number_in, read, sign, with_sign};
 
 use itoa::Buffer;
 use std::alloc::AllocError;

@@ -1,6 +1,6 @@
 //! Attributes and leaves.
 
-ghost use Rattle.std.specs.Prelude.{◌≡◌, ◌++◌, ◌∷◌, [], IfOk, OnOk};
+ghost use Rattle.std.specs.Prelude.{◌≡◌, ◌++◌, IfOk, OnOk};
 
 use crate::utf8::Utf8Text;
 use std::alloc::{AllocError, Global};

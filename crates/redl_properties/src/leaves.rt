@@ -1,8 +1,8 @@
 //! What leaves with one path set.
 
-ghost use Rattle.std.specs.Prelude.{◌≡◌, ◌≤◌, ◌++◌, ◌∷◌, [], IfOk, OnOk, bytes_eq, find, length, reverse, slice_get, take, not, if◌then◌else◌};
+ghost use Rattle.std.specs.Prelude.{◌≡◌, ◌≤◌, ◌++◌, IfOk, OnOk, bytes_eq, find, length, reverse, if◌then◌else◌};
 ghost use Rattle.std.specs.Option.{option_copied};
-ghost use Rattle.std.specs.List.{flat_map, list_any};
+ghost use Rattle.std.specs.List.{list_any};
 ghost use Rattle.redl_reading.specs.Steps.{Gives};
 ghost use Rattle.redl_properties.specs.Leaves.{comes_first, last_value, leaf_at, leaves_at, path_comes_first, set_at, set_by, set_in};
 ghost use Rattle.redl_properties.specs.declared.attribute.Attribute.{Attribute};

@@ -1,10 +1,9 @@
 //! The changed properties of a change in one line of words.
 
-ghost use Rattle.std.specs.Prelude.{◌≡◌, ◌++◌, ◌∷◌, [], IfOk, OnOk, length};
-ghost use Rattle.std.specs.List.{flat_map, list_all, list_any};
+ghost use Rattle.std.specs.Prelude.{◌≡◌, ◌++◌, IfOk, OnOk};
+ghost use Rattle.std.specs.List.{list_any};
 ghost use Rattle.redl_reading.specs.Steps.{Gives};
 ghost use Rattle.redl_properties.specs.Lines.{and_more, are_of_language, first_four, is_of_language, is_other_font, is_other_language, is_repeated, line_of, same_change, told, told_line, told_of, twin_of};
-ghost use Rattle.redl_properties.specs.Utf8.{text_or_nothing};
 ghost use Rattle.redl_properties.specs.declared.change.Changed.{Changed};
 
 use crate::amount::push_decimal;

@@ -2,7 +2,7 @@
 
 ghost use Rattle.std.specs.Prelude.{◌≡◌, ◌++◌, OnOk};
 ghost use Rattle.std.specs.Option.{option_copied};
-ghost use Rattle.redl_properties.specs.Said.{attribute_said, between, border_said, colour_said, common, first_at, height_said, leaf_said, leaves_said, leaves_upto, level_said, line_by, line_said, lines_said, list_said, name_or, part_said, parts_said, parts_upto, property_at, ruled, said_change, shade_said, switched, tab_said, text_said, value_or, value_said, way_at, way_or_text, width_said};
+ghost use Rattle.redl_properties.specs.Said.{attribute_said, between, border_said, colour_said, common, first_at, height_said, leaf_said, leaves_said, level_said, line_by, line_said, lines_said, list_said, name_or, part_said, parts_said, property_at, ruled, said_change, shade_said, switched, tab_said, text_said, value_or, value_said, way_at, way_or_text, width_said};
 
 use crate::amount::{natural, push_amount, push_decimal, push_measured};
 use crate::attribute::{Attribute, Attributes};

@@ -1,8 +1,8 @@
 //! Values of properties.
 
-ghost use Rattle.std.specs.Prelude.{◌≡◌, IfOk, length, slice_get};
+ghost use Rattle.std.specs.Prelude.{◌≡◌, IfOk};
 ghost use Rattle.std.specs.Option.{option_copied};
-ghost use Rattle.redl_properties.specs.Values.{are_same, are_same_upto, same_at, same_attribute, same_leaf_at, same_leaves, same_leaves_upto, same_value};
+ghost use Rattle.redl_properties.specs.Values.{are_same, same_at, same_attribute, same_leaf_at, same_leaves, same_value};
 
 use crate::attribute::{Attribute, Attributes, Leaves};
 use crate::utf8::Utf8Text;

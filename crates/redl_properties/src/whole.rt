@@ -1,6 +1,6 @@
 //! The values of properties that are said whole.
 
-ghost use Rattle.std.specs.Prelude.{◌≡◌, ◌∷◌, [], IfOk, Some, bytes_eq, codes, length, slice_get};
+ghost use Rattle.std.specs.Prelude.{◌≡◌, IfOk, Some, codes};
 ghost use Rattle.std.specs.Option.{option_copied};
 ghost use Rattle.redl_properties.specs.Wholes.{is_off, is_whole, leaf_value, many_value, switch_text, toggle_value, whole_value};
 ghost use Rattle.redl_properties.specs.Leaves.{last_value};

@@ -1,10 +1,9 @@
 -- What is no former property is passed over.
-use Rattle.std.proofs.Common.{◌≡◌, None, Some, sym, ap, ◌∙◌, arith}
-use Rattle.redl_resolve.proofs.PassLaws.{former-here, former-later}
-use Rattle.redl_resolve.specs.Inside.Changes.{item_former}
+use Rattle.std.proofs.Common.{sym, ap, ◌∙◌, arith}
+use Rattle.redl_resolve.proofs.PassLaws.{former-later}
 use Rattle.redl_tree.proofs.Model.Laws.{nodes_here}
 use Rattle.redl_tree.specs.Decisions.Restored.{former_kids}
-use Rattle.redl_tree.specs.Model.View.{item_of, nodes_of}
+use Rattle.redl_tree.specs.Model.View.{item_of}
 use Rattle.redl_tree.specs.Roles.Places.{props_name}
 use Rattle.redl_changed.proofs.changed.former_leaves.Goals as goal
 

@@ -1,5 +1,5 @@
 -- Node by node, in a text that gets shorter.
-use Rattle.std.proofs.Common.{◌≡◌, ◌≤◌, ◌<◌, ◌+◌, ◌*◌, ℕ, List, length, refl, sym, ap, ◌∙◌, arith}
+use Rattle.std.proofs.Common.{◌≤◌, ◌<◌, ◌+◌, ◌*◌, ℕ, List, length, refl, sym, ap, ◌∙◌, arith}
 use Rattle.redl_laid.specs.Firsts.{first_item, AreShorter}
 use Rattle.redl_laid.specs.declared.laid.First.{First}
 use Rattle.redl_laid.specs.declared.laid.First.TheVariants.{Bytes, Elem}

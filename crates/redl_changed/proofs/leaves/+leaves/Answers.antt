@@ -1,5 +1,5 @@
 -- Node by node.
-use Rattle.std.proofs.Common.{◌≡◌, ◌+◌, drop, sym, ap, ◌∙◌, arith}
+use Rattle.std.proofs.Common.{◌+◌, drop, sym, ap, ◌∙◌, arith}
 use Rattle.redl_tree.specs.Model.View.{item_of, nodes_of}
 use Rattle.redl_tree.proofs.Model.Laws.{nodes_here, nodes_end}
 use Rattle.redl_changed.specs.Kept.{kept_after}

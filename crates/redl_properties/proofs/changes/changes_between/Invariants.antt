@@ -1,4 +1,4 @@
-use Rattle.std.proofs.Common.{◌≡◌, take, drop}
+use Rattle.std.proofs.Common.{◌≡◌}
 use Rattle.redl_properties.specs.Changes.{changes_upto}
 use Rattle.redl_properties.proofs.changes.changes_between.Given as goal
 
