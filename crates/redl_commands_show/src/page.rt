@@ -87,36 +87,47 @@ fn show<'a, O: Sink>(
     } = admitted;
     let mut document = document;
     let digest = document.id().digest;
-    let Ok(facts) = facts_of(alloc, &session, locks) else {
+    let Ok(facts) = facts_of(alloc, &session, locks, digest) else {
         return End::Failed(Failure::NoMemory);
     };
-    put_session(&session, &facts, &digest, heading, remarks, skin, out)
+    put_session(&session, &facts, heading, remarks, skin, out)
 }
 
-// What a page says of each revision besides its row and the words on it.
+// What a page says besides the rows of the revisions and the words on them.
 #[derive(Drop)]
 struct Facts {
-    // Whether it is locked.
+    // The digest of the package.
+    digest: [u8; 32],
+    // Whether each revision is locked.
     locked: Vec<bool>,
-    // What it changes, in words.
+    // What each changes, in words.
     said: Vec<Text>,
 }
 
-// The same of a session with these locks.
-fn facts_of(alloc: Global, session: &Session<'_>, locks: &[Lock]) -> Result<Facts, AllocError>
+// The same of a session with these locks, of whose package this is the digest.
+fn facts_of(
+    alloc: Global,
+    session: &Session<'_>,
+    locks: &[Lock],
+    digest: [u8; 32],
+) -> Result<Facts, AllocError>
+    ensures digest { IfOk result (λ facts. facts.digest ≡ digest) }
     ensures locked { IfOk result (λ facts. facts.locked.items ≡ map (is_locked locks.now) session.now.revisions) }
     ensures said { IfOk result (λ facts. facts.said.items ≡ changed_lines session.now.nodes session.now.revisions) }
 {
     let locked = locked_revisions(alloc, session.index().revisions(), locks)?;
     let said = changed_lines(alloc, session.package(), session.index())?;
-    Ok(Facts { locked, said })
+    Ok(Facts {
+        digest,
+        locked,
+        said,
+    })
 }
 
-// Puts the page of a session with these facts, of whose package this is the digest.
+// Puts the page of a session with these facts.
 fn put_session<'a, O: Sink>(
     session: &Session<'_>,
     facts: &Facts,
-    digest: &[u8; 32],
     heading: Heading<'_>,
     remarks: Remarks,
     skin: &Skin<'_>,
@@ -125,7 +136,7 @@ fn put_session<'a, O: Sink>(
     requires locked { length facts.now.locked.items ≡ length session.now.revisions }
     requires said { facts.now.said.items ≡ changed_lines session.now.nodes session.now.revisions }
     ensures { EndsAlone O.told O.faults out.old out.new
-        (λ _. Ok (record { bytes = page_text (skin_view skin.now) (shown_of session.now facts.now.locked.items digest.now (heading_view heading.entry)); remarks = remarks_view remarks }))
+        (λ _. Ok (record { bytes = page_text (skin_view skin.now) (shown_of session.now facts.now.locked.items facts.now.digest (heading_view heading.entry)); remarks = remarks_view remarks }))
         (end_view result) }
 {
     let Ok(words) = session.book().last_words() else {
@@ -137,7 +148,7 @@ fn put_session<'a, O: Sink>(
         locked: &facts.locked,
         said: &facts.said,
         book: session.book(),
-        digest,
+        digest: &facts.digest,
         heading,
     };
     put_shown(skin, &page, &words, remarks, out)

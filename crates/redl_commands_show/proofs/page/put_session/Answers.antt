@@ -28,7 +28,7 @@ returns-in_default g c = record {
 pub returns : goal.returns
 returns g c = record {
   made = Ok (record {
-    bytes = page_text (skin_view c.args.skin.now) (shown_of c.args.session.now c.args.facts.now.locked.items c.args.digest.now (heading_view c.args.heading));
+    bytes = page_text (skin_view c.args.skin.now) (shown_of c.args.session.now c.args.facts.now.locked.items c.args.facts.now.digest (heading_view c.args.heading));
     remarks = remarks_view c.args.remarks;
   });
   reads = record { as_due = λ reader reads. refl; never_unread = tt };
@@ -37,6 +37,6 @@ returns g c = record {
       (Ok (record { bytes = page_text (skin_view c.args.skin.now) shown; remarks = remarks_view c.args.remarks })) (end_view c.put_shown.result))
       (same_shown c.package.result.now c.args.session.now.nodes c.index.result.now c.args.session.now.revisions c.deref.result.now c.args.facts.now.locked.items
       c.deref-2.result.now (changed_lines c.args.session.now.nodes c.args.session.now.revisions) c.book-2.result.now c.args.session.now.book
-      c.args.digest.now (heading_view c.args.heading) c.package.ensures c.index.ensures c.deref.ensures.value (c.deref-2.ensures.value ∙ c.requires.said) c.book-2.ensures)
+      c.args.facts.now.digest (heading_view c.args.heading) c.package.ensures c.index.ensures c.deref.ensures.value (c.deref-2.ensures.value ∙ c.requires.said) c.book-2.ensures)
       c.put_shown.ensures;
 }

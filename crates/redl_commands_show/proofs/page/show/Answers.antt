@@ -1,4 +1,4 @@
-use Rattle.std.proofs.Common.{◌≡◌, ◌∙◌, Bool, Err, List, Ok, ap, length, map, refl, subst}
+use Rattle.std.proofs.Common.{◌≡◌, ◌∙◌, ℕ, Bool, Err, List, Ok, ap, length, map, refl, subst}
 use Rattle.std.proofs.lemmas.List.{length-map}
 use Rattle.redl_commands_shown.specs.Page.{is_locked, shown_in, shown_of}
 use Rattle.redl_inputs.specs.Reading.{Reads}
@@ -21,8 +21,9 @@ returns-in_default g c = record {
 
 pub returns : goal.returns
 returns g c =
-    let same : shown_of c.args.admitted.session c.in-Ok.facts.locked.items c.id.result.digest (heading_view c.args.heading) ≡ shown_in (heading_view c.args.heading) c.args.locks.now (admission_view c.args.admitted) =
-    ap (λ (flags : List Bool). shown_of c.args.admitted.session flags c.id.result.digest (heading_view c.args.heading)) c.in-Ok.ensures.locked
+    let same : shown_of c.args.admitted.session c.in-Ok.facts.locked.items c.in-Ok.facts.digest (heading_view c.args.heading) ≡ shown_in (heading_view c.args.heading) c.args.locks.now (admission_view c.args.admitted) =
+    ap (λ (digest : List ℕ). shown_of c.args.admitted.session c.in-Ok.facts.locked.items digest (heading_view c.args.heading)) c.in-Ok.ensures.digest
+    ∙ ap (λ (flags : List Bool). shown_of c.args.admitted.session flags c.id.result.digest (heading_view c.args.heading)) c.in-Ok.ensures.locked
     ∙ ap (λ id. shown_of c.args.admitted.session (map (is_locked c.args.locks.now) c.args.admitted.session.revisions) id.digest (heading_view c.args.heading)) c.id.ensures.id in
     record {
       made = c.put_session.ensures.made;
