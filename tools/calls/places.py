@@ -1,4 +1,5 @@
-"""Where the program and the desk are: beside the script that was called, in its checkout, or on the PATH."""
+"""Where the program and the desk are: where a variable says, or beside the script that was called, in its checkout, or on the PATH.
+Where a variable says it, nothing else takes its place: the program of a checkout would first be built."""
 import os
 
 from calls.words import Refused
@@ -10,17 +11,27 @@ DESKS = ("redline-desk.html", "../share/redline/redline-desk.html", "../crates/r
 
 def find_redline(here):
     """The program. `here` is the folder of the script that was called."""
-    on_path = [os.path.join(folder, "redline") for folder in os.environ.get("PATH", "").split(os.pathsep) if folder]
-    for path in [os.environ.get("REDLINE"), *(os.path.join(here, name) for name in PROGRAMS), *on_path]:
-        if path and os.path.isfile(path) and os.access(path, os.X_OK):
+    named = os.environ.get("REDLINE")
+    if named:
+        paths = [named] if "/" in named else on_path(named)
+    else:
+        paths = [*(os.path.join(here, name) for name in PROGRAMS), *on_path("redline")]
+    for path in paths:
+        if os.path.isfile(path) and os.access(path, os.X_OK):
             return path
-    raise Refused(70, "there is no program redline to call; REDLINE may name it")
+    raise Refused(70, "REDLINE names %s, which is no program" % named if named else "there is no program redline to call; REDLINE may name it")
 
 
 def find_desk(here):
     """The text of the desk."""
-    for path in [os.environ.get("REDLINE_DESK"), *(os.path.join(here, name) for name in DESKS)]:
-        if path and os.path.isfile(path):
+    named = os.environ.get("REDLINE_DESK")
+    for path in [named] if named else [os.path.join(here, name) for name in DESKS]:
+        if os.path.isfile(path):
             with open(path, encoding="utf-8") as file:
                 return file.read()
-    raise Refused(70, "there is no redline-desk.html; REDLINE_DESK may name it")
+    raise Refused(70, "REDLINE_DESK names %s, which is no file" % named if named else "there is no redline-desk.html; REDLINE_DESK may name it")
+
+
+def on_path(name):
+    """Where the PATH has programs with this name."""
+    return [os.path.join(folder, name) for folder in os.environ.get("PATH", "").split(os.pathsep) if folder]
