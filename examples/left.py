@@ -6,6 +6,7 @@ import json
 import re
 import sys
 
+import bare
 import reading
 import texts
 
@@ -27,6 +28,8 @@ PLACES = {
     "endnoteReference": "unused-endnote",
 }
 NOTES = {"footnote": "unused-footnote", "endnote": "unused-endnote"}
+# How the types of relationships end that lead to parts of a kind.
+LEADS = {"/oleObject": "embedded", "/package": "embedded", "/customXml": "custom-xml", "/customXmlProps": "custom-xml"}
 MACROS = "application/vnd.ms-office.vbaProject"
 VBA_DATA = "application/vnd.ms-word.vbaData+xml"
 OLE_OBJECT = "application/vnd.openxmlformats-officedocument.oleObject"
@@ -59,6 +62,18 @@ def named_in(package):
         elif element.attribute("author") is not None:
             named["name"].add(element.attribute("author"))
     return named
+
+
+def led_to(package):
+    """To which parts relationships lead that make them embedded or custom XML. They are in the folder `_rels` beside their source."""
+    led = {fact: set() for fact in LEADS.values()}
+    for part, root in bare.parts_of(package):
+        parents = reading.elements([root]) if root is not None else ()
+        for one in (kid for parent in parents if parent.local == "Relationships" for kid in bare.inside(parent, "Relationship")):
+            ends = [end for end in LEADS if one.space == "other" and (one.attribute("Type") or "").endswith(end)]
+            if ends and one.attribute("TargetMode") != "External":
+                led[LEADS[ends[0]]].add(bare.led(part.rpartition("/")[0], one.attribute("Target") or ""))
+    return led
 
 
 def is_spare(element, ids):
@@ -120,14 +135,14 @@ def other_find(element, parent):
     return None
 
 
-def part_find(element):
+def part_find(element, led):
     """The same of a part."""
     name, kind = element.attribute("name"), element.attribute("contentType") or ""
-    if name.startswith("/word/embeddings/") or kind == OLE_OBJECT:
+    if name in led["embedded"] or name.startswith("/word/embeddings/") or kind == OLE_OBJECT:
         return "embedded", ""
     if kind.startswith(MACROS) or kind == VBA_DATA:
         return "macros", ""
-    return ("custom-xml", "") if name.startswith("/customXml/") else None
+    return ("custom-xml", "") if name in led["custom-xml"] or name.startswith("/customXml/") else None
 
 
 def found(element, parent, named):
@@ -142,7 +157,7 @@ def found(element, parent, named):
 
 def left(package):
     """The lines, as lists of fact, count, part and value."""
-    tables, named = {fact: [] for fact in FACTS}, named_in(package)
+    tables, named, led = {fact: [] for fact in FACTS}, named_in(package), led_to(package)
 
     def note(find, part):
         if find is None:
@@ -164,7 +179,7 @@ def left(package):
                 note_names([texts.shown(kid)], part)
                 continue
             inner = kid.attribute("name") if depth == 1 else part
-            note(part_find(kid) if depth == 1 else found(kid, parent, named), inner)
+            note(part_find(kid, led) if depth == 1 else found(kid, parent, named), inner)
             note_names([value for name, value in attributes_of(kid) if name != "author"], inner)
             look(kid.kids, inner, kid.local, depth + 1)
 

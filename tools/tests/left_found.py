@@ -8,6 +8,7 @@ twice, and with 100,000 comments. Of tracked changes it only knows how many ther
 import collections
 import json
 import os
+import posixpath
 import random
 import subprocess
 import sys
@@ -22,6 +23,7 @@ RANGES = ["customXml%sRange%s" % (what, end) for what in ("Ins", "Del", "MoveFro
 DECIDED = {"ins", "del", "moveFrom", "moveTo", "cellIns", "cellDel", *("tblPrExChange" if it == "tblEx" else it + "PrChange" for it in CHANGES)}
 OTHERS = {"numberingChange", "tblGridChange", "cellMerge", *RANGES}
 MARKERS = {"moveFromRangeStart", "moveFromRangeEnd", "moveToRangeStart", "moveToRangeEnd"}
+LEADS = {"oleObject": "embedded", "package": "embedded", "customXml": "custom-xml", "customXmlProps": "custom-xml"}
 PROPERTIES = {
     ("coreProperties", "creator"): "creator",
     ("coreProperties", "lastModifiedBy"): "last-editor",
@@ -55,9 +57,19 @@ class Found:
         self.commented = ids("commentReference")
         self.noted = {note: ids(note + "Reference") for note in ("footnote", "endnote")}
         self.authors = {value_of(it, "author") for it in words} - {None, ""}
+        self.led = {part: fact for fact, part in self.leads()}
         self.texts(self.root, "")
         for part in self.root:
             self.part(part)
+
+    def leads(self):
+        """The facts that relationships make of parts, and the names of these parts."""
+        for element in self.root.iter("{*}Relationship"):
+            part = value_of(next(it for it in element.iterancestors("{%s}part" % PKG)), "name")
+            source = posixpath.dirname(posixpath.dirname(part))
+            kind = (value_of(element, "Type") or "").rpartition("/")[2]
+            if kind in LEADS and value_of(element, "TargetMode") != "External":
+                yield LEADS[kind], posixpath.normpath(posixpath.join(source, value_of(element, "Target")))
 
     def add(self, fact, part, value=""):
         self.facts[fact, part, value] += 1
@@ -72,11 +84,11 @@ class Found:
 
     def part(self, part):
         name, kind = value_of(part, "name"), value_of(part, "contentType") or ""
-        if name.startswith("/word/embeddings/") or kind == "application/vnd.openxmlformats-officedocument.oleObject":
+        if self.led.get(name) == "embedded" or name.startswith("/word/embeddings/") or kind == "application/vnd.openxmlformats-officedocument.oleObject":
             self.add("embedded", name)
         elif kind.startswith("application/vnd.ms-office.vbaProject") or kind == "application/vnd.ms-word.vbaData+xml":
             self.add("macros", name)
-        elif name.startswith("/customXml/"):
+        elif self.led.get(name) == "custom-xml" or name.startswith("/customXml/"):
             self.add("custom-xml", name)
         for element in part.iter():
             self.texts(element, name)
@@ -229,7 +241,11 @@ class Chance:
             % (self.text(), self.text(), self.text())))
         maybe(part("/docProps/custom.xml", "k", '<Properties xmlns="p" xmlns:v="v"><property name="Client"> <v:lpwstr>%s</v:lpwstr></property><property/></Properties>' % self.text()))
         maybe(part("/word/people.xml", "p", '<o:people xmlns:o="o"><o:person o:author="Ann"/><o:person o:author=%s/></o:people>' % quoteattr(by.choice(self.names))))
-        maybe(part("/word/_rels/document.xml.rels", "r", '<Relationships xmlns="r"><Relationship Target="a" TargetMode="External"/><Relationship Target="b"/></Relationships>'))
+        leads = [("oleObject", "objects/a.bin"), ("package", "/objects/b.bin"), ("customXml", "../data/c.xml"), ("customXmlProps", "../data/d.xml"), ("image", "objects/e.bin")]
+        tails = ["", "", ' TargetMode="External"']
+        maybe(part("/word/_rels/document.xml.rels", "r", '<Relationships xmlns="r"><Relationship Target="a" TargetMode="External"/><Relationship Target="b"/>%s</Relationships>'
+            % "".join('<Relationship Type="t/%s" Target="%s"%s/>' % (*lead, by.choice(tails)) for lead in leads if by.random() < 0.7)))
+        maybe(*(part(name, "x", "<x/>") for name in ("/word/objects/a.bin", "/objects/b.bin", "/data/c.xml", "/data/d.xml", "/word/objects/e.bin")))
         maybe(part("/customXml/item1.xml", "x", "<x/>"), part("/word/embeddings/a.bin", "x", "<x/>"))
         return package(main, *parts)
 
@@ -255,7 +271,7 @@ def main(program, folder, *paths):
         kinds |= check("left of a package by chance, %d" % seed, Chance(seed).whole())
     check("left without comments", package(part("/word/document.xml", "m", word("document", '<w:body><w:p><w:r><w:commentReference w:id="1"/></w:r></w:p></w:body>'))))
     check("left of 100,000 comments", many_comments(100000))
-    missing = {"comment", "orphan", "unused-footnote", "unused-endnote", "name", "custom-property", "creator", "undecided"} - kinds
+    missing = {"comment", "orphan", "unused-footnote", "unused-endnote", "name", "custom-property", "creator", "undecided", "embedded", "custom-xml"} - kinds
     print("FAILED chance: it made no %s" % missing if missing else "ok each of these facts came up")
 
 

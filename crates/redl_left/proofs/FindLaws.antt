@@ -19,7 +19,7 @@ use Rattle.redl_left.specs.declared.row.Row.{Row}
 use Rattle.redl_left.specs.declared.row.Where.{Where}
 use Rattle.redl_left.specs.declared.row.Where.TheVariants.{Word, AnyWord, Inside, Part}
 use Rattle.redl_left.specs.declared.row.Value.{Value}
-use Rattle.redl_left.specs.declared.row.Value.TheVariants.{Nothing, Attribute, Made, Shown, Held}
+use Rattle.redl_left.specs.declared.row.Value.TheVariants.{Nothing, Attribute, Made, Shown, Held, Lead}
 use Rattle.redl_left.specs.declared.walk.Below.{Below}
 use Rattle.redl_left.specs.Finds.{Find, Table, asks, asks_place, asks_when, first_row, found, found_by, found_idle, found_names, found_plain, found_row, found_text, found_value, inner_shown, kind_in, shown_alone, part_of, is_part_name, value_of, value_or_nothing, finds}
 use Rattle.redl_left.specs.Named.{named_of}
@@ -51,17 +51,19 @@ row_same named (row ∷ rows) p q local tail =
     ap (λ b. if b && asks_when named row.when tail then Some row else first_row named rows p spaces.W local tail) (place_same row.place p q local)
     ∙ ap (λ (o : Option Row). if asks named q spaces.W local tail row then Some row else o) (row_same named rows p q local tail)
 
-value_same : (value : Value) (local tail : List ℕ) (kids : Nodes) → value_of value spaces.W local tail kids ≡ value_of value spaces.W local tail no_nodes
-value_same Nothing local tail kids = refl
-value_same (Attribute name) local tail kids = refl
-value_same Made local tail kids = refl
-value_same Shown local tail kids = refl
-value_same (Held name) local tail kids = refl
+value_same : (part : List ℕ) (value : Value) (local tail : List ℕ) (kids : Nodes)
+    → value_of part value spaces.W local tail kids ≡ value_of part value spaces.W local tail no_nodes
+value_same part Nothing local tail kids = refl
+value_same part (Attribute name) local tail kids = refl
+value_same part Made local tail kids = refl
+value_same part Shown local tail kids = refl
+value_same part (Held name) local tail kids = refl
+value_same part (Lead name) local tail kids = refl
 
 kids_same : (part local tail : List ℕ) (kids : Nodes) (row : Option Row)
     → found_row part spaces.W local tail kids row ≡ found_row part spaces.W local tail no_nodes row
 kids_same part local tail kids None = refl
-kids_same part local tail kids (Some row) = ap (found_value part row) (value_same row.value local tail kids)
+kids_same part local tail kids (Some row) = ap (found_value part row) (value_same part row.value local tail kids)
 
 plain_same : (search : Search) (part p local tail : List ℕ) (kids : Nodes)
     → found_plain (table_of search) part p spaces.W local tail kids ≡ found_plain (table_of search) part [] spaces.W local tail no_nodes

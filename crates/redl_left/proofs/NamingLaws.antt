@@ -107,7 +107,7 @@ no_row in_run parent local tail idle lacking no_author =
         both_false _ _ (reference (codes "footnoteReference") refl),
         (
           both_false _ _ (reference (codes "endnoteReference") refl),
-          (both_false _ _ (part_of_note (codes "footnote") refl), (both_false _ _ (part_of_note (codes "endnote") refl), (ap is_some no_author, tt))),
+          (both_false _ _ (part_of_note (codes "footnote") refl), (both_false _ _ (part_of_note (codes "endnote") refl), (ap is_some no_author, (refl, (refl, (refl, (refl, (refl, tt)))))))),
         ),
       ),
     )

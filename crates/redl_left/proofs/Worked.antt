@@ -13,7 +13,7 @@ use Rattle.redl_left.specs.declared.row.When.TheVariants.{Always}
 use Rattle.redl_left.specs.declared.row.Value.TheVariants.{Nothing}
 use Rattle.redl_left.specs.declared.row.Row.{Row}
 use Rattle.redl_left.specs.declared.line.Line.{Line}
-use Rattle.redl_left.specs.Finds.{Find, Table, rows_table, finds, found}
+use Rattle.redl_left.specs.Finds.{Find, Table, rows_table, finds, found, lead_from}
 use Rattle.redl_left.specs.Lines.{noted}
 
 part : List ℕ
@@ -54,3 +54,16 @@ twice = refl
 apart : noted (noted [] (find (codes "b"))) (find (codes "c")) ≡ line (codes "b") 1 ∷ line (codes "c") 1 ∷ []
 unfolding part find line
 apart = refl
+
+-- where a relationship leads, from its part's name
+beside : lead_from (codes "/word/_rels/document.xml.rels") (codes "embeddings/a.bin") ≡ codes "/word/embeddings/a.bin"
+beside = refl
+
+up : lead_from (codes "/word/_rels/document.xml.rels") (codes "../customXml/item1.xml") ≡ codes "/customXml/item1.xml"
+up = refl
+
+of_package : lead_from (codes "/_rels/.rels") (codes "customXml/item1.xml") ≡ codes "/customXml/item1.xml"
+of_package = refl
+
+rooted : lead_from (codes "/word/_rels/document.xml.rels") (codes "/a.bin") ≡ codes "/a.bin"
+rooted = refl

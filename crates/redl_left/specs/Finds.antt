@@ -1,12 +1,13 @@
 -- What elements are found to be: the rows of a table are asked in their order, and an element is a find of the first one that asks
 -- for it. A member of a revision is a find by its kind, whatever the rows. Where the name of an author stands as a text or as a
 -- value, that is a find too (our own rule).
-use Rattle.std.specs.Prelude.{ℕ, List, [], ◌∷◌, ◌++◌, Bool, true, false, not, ◌&&◌, ◌||◌, Option, Some, None, is_some, find, length, ◌==◌, bytes_eq, codes, if◌then◌else◌}
-use Rattle.std.specs.List.{list_any}
+use Rattle.std.specs.Prelude.{ℕ, List, [], ◌∷◌, ◌++◌, Bool, true, false, not, ◌&&◌, ◌||◌, Option, Some, None, is_some, find, length, ◌==◌, nat_eq, bytes_eq, codes, if◌then◌else◌}
+use Rattle.std.specs.List.{list_any, ends_with}
 use Rattle.redl_grammar.specs.Names.{Name as Qualified}
 use Rattle.redl_markup.specs.Attributes.{attributes_of}
 use Rattle.redl_markup.specs.Decoding.{decoded_value}
 use Rattle.redl_reading.specs.Lists.{begins}
+use Rattle.redl_relations.specs.Names.{target_name}
 use Rattle.redl_shown.specs.Shown.{shown}
 use Rattle.redl_stamp.specs.Attribute.{attribute_value}
 use Rattle.redl_tree.specs.Model.Nodes.{Tag, Nodes, no_nodes, bytes, element}
@@ -27,9 +28,9 @@ use Rattle.redl_left.specs.declared.fact.Fact.TheVariants as fact
 use Rattle.redl_left.specs.declared.row.Where.{Where}
 use Rattle.redl_left.specs.declared.row.Where.TheVariants.{Word, AnyWord, Inside, Part}
 use Rattle.redl_left.specs.declared.row.When.{When}
-use Rattle.redl_left.specs.declared.row.When.TheVariants.{Always, On, Has, HasFront, Is, Begins, Separates, Spare}
+use Rattle.redl_left.specs.declared.row.When.TheVariants.{Always, On, Has, HasFront, Is, Begins, Ends, Separates, Spare, Led}
 use Rattle.redl_left.specs.declared.row.Value.{Value}
-use Rattle.redl_left.specs.declared.row.Value.TheVariants.{Nothing, Attribute, Made, Shown, Held}
+use Rattle.redl_left.specs.declared.row.Value.TheVariants.{Nothing, Attribute, Made, Shown, Held, Lead}
 use Rattle.redl_left.specs.declared.row.Row.{Row}
 
 -- a find: the fact, the part that it is in, and what is told of it
@@ -68,6 +69,10 @@ abbrev pub begins_value : List ℕ → Option (List ℕ) → Bool
 begins_value front None = false
 begins_value front (Some value) = begins front value
 
+abbrev pub ends_value : List ℕ → Option (List ℕ) → Bool
+ends_value ending None = false
+ends_value ending (Some value) = ends_with nat_eq value ending
+
 abbrev pub has_front_name : List ℕ → List ℕ → Bool
 has_front_name tail front = list_any (λ attribute. begins front attribute.0.local) (attributes_of tail)
 
@@ -76,10 +81,10 @@ abbrev pub is_normal : Option (List ℕ) → Bool
 is_normal None = true
 is_normal (Some kind) = bytes_eq kind (codes "normal")
 
--- an element with this id is named
+-- an element with this value is named
 abbrev pub names_it : (List ℕ → Bool) → Option (List ℕ) → Bool
 names_it named None = false
-names_it named (Some id) = named id
+names_it named (Some value) = named value
 
 -- by an attribute
 abbrev pub asks_when : (Fact → List ℕ → Bool) → When → List ℕ → Bool
@@ -89,8 +94,10 @@ asks_when named (Has name) tail = is_some (attribute_value tail (name_text name)
 asks_when named (HasFront name) tail = has_front_name tail (name_text name)
 asks_when named (Is name wanted) tail = is_value (name_text wanted) (attribute_value tail (name_text name))
 asks_when named (Begins name front) tail = begins_value (name_text front) (attribute_value tail (name_text name))
+asks_when named (Ends name ending) tail = ends_value (name_text ending) (attribute_value tail (name_text name))
 asks_when named Separates tail = not (is_normal (attribute_value tail (codes "type")))
 asks_when named (Spare fact) tail = is_normal (attribute_value tail (codes "type")) && not (names_it (named fact) (attribute_value tail (codes "id")))
+asks_when named (Led fact) tail = names_it (named fact) (attribute_value tail (codes "name"))
 
 abbrev pub asks : (Fact → List ℕ → Bool) → List ℕ → Space → List ℕ → List ℕ → Row → Bool
 asks named parent space local tail row = asks_place row.place parent space local && asks_when named row.when tail
@@ -142,12 +149,19 @@ abbrev pub after_colon : List ℕ → List ℕ
 after_colon [] = []
 after_colon (b ∷ bs) = codes ": " ++ (b ∷ bs)
 
-abbrev pub value_of : Value → Space → List ℕ → List ℕ → Nodes → List ℕ
-value_of Nothing space local tail kids = []
-value_of (Attribute name) space local tail kids = value_or_nothing (attribute_value tail (name_text name))
-value_of Made space local tail kids = local ++ by_whom (attribute_value tail (codes "author"))
-value_of Shown space local tail kids = shown_alone space kids
-value_of (Held name) space local tail kids = value_or_nothing (attribute_value tail (name_text name)) ++ after_colon (inner_of space kids)
+-- The name of the part to which a relationship leads that stands in this part: that is in the folder `_rels` beside the part that has
+-- the relationship (ECMA-376 Part 2, 9.3.3), so they lead as from that folder's own name.
+abbrev pub lead_from : List ℕ → List ℕ → List ℕ
+lead_from part target = target_name (target_name part (codes ".")) target
+
+-- of an element in this part
+abbrev pub value_of : List ℕ → Value → Space → List ℕ → List ℕ → Nodes → List ℕ
+value_of part Nothing space local tail kids = []
+value_of part (Attribute name) space local tail kids = value_or_nothing (attribute_value tail (name_text name))
+value_of part Made space local tail kids = local ++ by_whom (attribute_value tail (codes "author"))
+value_of part Shown space local tail kids = shown_alone space kids
+value_of part (Held name) space local tail kids = value_or_nothing (attribute_value tail (name_text name)) ++ after_colon (inner_of space kids)
+value_of part (Lead name) space local tail kids = lead_from part (value_or_nothing (attribute_value tail (name_text name)))
 
 -- ---- the finds
 
@@ -202,7 +216,7 @@ found_value part row value = if is_nothing row.value value then [] else record {
 
 abbrev pub found_row : List ℕ → Space → List ℕ → List ℕ → Nodes → Option Row → List Find
 found_row part space local tail kids None = []
-found_row part space local tail kids (Some row) = found_value part row (value_of row.value space local tail kids)
+found_row part space local tail kids (Some row) = found_value part row (value_of part row.value space local tail kids)
 
 abbrev pub found_plain : Table → List ℕ → List ℕ → Space → List ℕ → List ℕ → Nodes → List Find
 found_plain table part parent space local tail kids = found_row part space local tail kids (table.first parent space local tail)

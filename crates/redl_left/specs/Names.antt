@@ -1,7 +1,7 @@
 -- The names and values that rows ask for.
 use Rattle.std.specs.Prelude.{ℕ, List, codes}
 use Rattle.redl_left.specs.declared.name.Name.{Name}
-use Rattle.redl_left.specs.declared.name.Name.TheVariants.{NumberingChange, TblGridChange, CellMerge, CustomXmlInsRangeStart, CustomXmlInsRangeEnd, CustomXmlDelRangeStart, CustomXmlDelRangeEnd, CustomXmlMoveFromRangeStart, CustomXmlMoveFromRangeEnd, CustomXmlMoveToRangeStart, CustomXmlMoveToRangeEnd, Ins, Del, MoveFrom, MoveTo, CellIns, CellDel, RPrChange, PPrChange, SectPrChange, TblPrChange, TblPrExChange, TrPrChange, TcPrChange, MoveFromRangeStart, MoveFromRangeEnd, MoveToRangeStart, MoveToRangeEnd, Comment, Author, CommentReference, Footnote, FootnoteReference, Endnote, EndnoteReference, Id, Vanish, TrackRevisions, DocumentProtection, WriteProtection, Rsid, RsidRoot, P, R, Tr, SectPr, CoreProperties, Creator, LastModifiedBy, Title, Subject, Properties, Manager, Company, People, Person, Property, Called, DocVar, MailMerge, Relationships, Relationship, TargetMode, External, Target, Embeddings, ContentType, VbaProject, VbaData, OleObject, CustomXmlFolder}
+use Rattle.redl_left.specs.declared.name.Name.TheVariants.{NumberingChange, TblGridChange, CellMerge, CustomXmlInsRangeStart, CustomXmlInsRangeEnd, CustomXmlDelRangeStart, CustomXmlDelRangeEnd, CustomXmlMoveFromRangeStart, CustomXmlMoveFromRangeEnd, CustomXmlMoveToRangeStart, CustomXmlMoveToRangeEnd, Ins, Del, MoveFrom, MoveTo, CellIns, CellDel, RPrChange, PPrChange, SectPrChange, TblPrChange, TblPrExChange, TrPrChange, TcPrChange, MoveFromRangeStart, MoveFromRangeEnd, MoveToRangeStart, MoveToRangeEnd, Comment, Author, CommentReference, Footnote, FootnoteReference, Endnote, EndnoteReference, Id, Vanish, TrackRevisions, DocumentProtection, WriteProtection, Rsid, RsidRoot, P, R, Tr, SectPr, CoreProperties, Creator, LastModifiedBy, Title, Subject, Properties, Manager, Company, People, Person, Property, Called, DocVar, MailMerge, Relationships, Relationship, TargetMode, External, Target, RelationType, ToOleObject, ToPackage, ToCustomXml, ToCustomXmlProps, Embeddings, ContentType, VbaProject, VbaData, OleObject, CustomXmlFolder}
 
 abbrev pub name_text : Name → List ℕ
 name_text NumberingChange = codes "numberingChange"
@@ -69,6 +69,11 @@ name_text Relationship = codes "Relationship"
 name_text TargetMode = codes "TargetMode"
 name_text External = codes "External"
 name_text Target = codes "Target"
+name_text RelationType = codes "Type"
+name_text ToOleObject = codes "/oleObject"
+name_text ToPackage = codes "/package"
+name_text ToCustomXml = codes "/customXml"
+name_text ToCustomXmlProps = codes "/customXmlProps"
 name_text Embeddings = codes "/word/embeddings/"
 name_text ContentType = codes "contentType"
 name_text VbaProject = codes "application/vnd.ms-office.vbaProject"

@@ -8,7 +8,7 @@ ghost use Rattle.redl_reading.specs.Lists.{begins};
 ghost use Rattle.redl_stamp.specs.Attribute.{attribute_value};
 ghost use Rattle.redl_left.specs.Names.{name_text};
 ghost use Rattle.redl_left.specs.Named.{named_of};
-ghost use Rattle.redl_left.specs.Finds.{asks, asks_place, asks_when, begins_value, is_normal, names_it, first_row, is_off, is_part_name, is_value, member_fact, content_fact, mark_fact, prop_fact};
+ghost use Rattle.redl_left.specs.Finds.{asks, asks_place, asks_when, begins_value, ends_value, is_normal, names_it, first_row, is_off, is_part_name, is_value, member_fact, content_fact, mark_fact, prop_fact};
 
 use crate::fact::Fact;
 use crate::name::Name;
@@ -95,6 +95,15 @@ fn has_value(alloc: Global, tail: &[u8], name: Name, wanted: Name) -> Result<boo
     }
 }
 
+fn has_end(alloc: Global, tail: &[u8], name: Name, ending: Name) -> Result<bool, AllocError>
+    ensures { IfOk result (λ has. has ≡ ends_value (name_text ending) (attribute_value tail.now (name_text name))) }
+{
+    match attribute(alloc, tail, name.text())? {
+        Some(value) => Ok(value.as_bytes().ends_with(ending.text())),
+        None => Ok(false),
+    }
+}
+
 fn has_front(alloc: Global, tail: &[u8], name: Name, front: Name) -> Result<bool, AllocError>
     ensures { IfOk result (λ has. has ≡ begins_value (name_text front) (attribute_value tail.now (name_text name))) }
 {
@@ -128,12 +137,18 @@ fn is_normal(alloc: Global, tail: &[u8]) -> Result<bool, AllocError>
     }
 }
 
-// Whether the id of a tag with this tail is named for a fact. `Err` means out of memory.
-fn is_named(alloc: Global, named: &Named<'_>, fact: Fact, tail: &[u8]) -> Result<bool, AllocError>
-    ensures { IfOk result (λ is. is ≡ names_it (named_of named.now fact) (attribute_value tail.now (codes "id"))) }
+// Whether the value of an attribute is named for a fact. `Err` means out of memory.
+fn is_named(
+    alloc: Global,
+    named: &Named<'_>,
+    fact: Fact,
+    tail: &[u8],
+    name: &[u8],
+) -> Result<bool, AllocError>
+    ensures { IfOk result (λ is. is ≡ names_it (named_of named.now fact) (attribute_value tail.now name.now)) }
 {
-    match attribute(alloc, tail, b"id")? {
-        Some(id) => Ok(named.has(fact, id.as_bytes())),
+    match attribute(alloc, tail, name)? {
+        Some(value) => Ok(named.has(fact, value.as_bytes())),
         None => Ok(false),
     }
 }
@@ -145,7 +160,7 @@ fn is_spare(alloc: Global, named: &Named<'_>, fact: Fact, tail: &[u8]) -> Result
     if !is_normal(alloc, tail)? {
         return Ok(false);
     }
-    Ok(!is_named(alloc, named, fact, tail)?)
+    Ok(!is_named(alloc, named, fact, tail, b"id")?)
 }
 
 // Whether a row asks for elements whose tag has this tail. `Err` means out of memory.
@@ -159,8 +174,10 @@ fn asks_when(alloc: Global, named: &Named<'_>, when: &When, tail: &[u8]) -> Resu
         When::HasFront(name) => Ok(has_front_name(tail, name.text())),
         When::Is(name, wanted) => has_value(alloc, tail, *name, *wanted),
         When::Begins(name, front) => has_front(alloc, tail, *name, *front),
+        When::Ends(name, ending) => has_end(alloc, tail, *name, *ending),
         When::Separates => Ok(!is_normal(alloc, tail)?),
         When::Spare(fact) => is_spare(alloc, named, *fact, tail),
+        When::Led(fact) => is_named(alloc, named, *fact, tail, b"name"),
     }
 }
 

@@ -74,6 +74,16 @@ pub enum Name {
     /// The value of `TargetMode` of a relationship that leads out of the package.
     External,
     Target,
+    /// The attribute `Type`.
+    RelationType,
+    /// How the type of a relationship ends that leads to an OLE object.
+    ToOleObject,
+    /// The same of an embedded package, as a workbook.
+    ToPackage,
+    /// The same of custom XML.
+    ToCustomXml,
+    /// The same of properties of custom XML.
+    ToCustomXmlProps,
     /// How names of parts with embedded objects begin.
     Embeddings,
     ContentType,
@@ -158,6 +168,11 @@ impl Name {
             Name::TargetMode => b"TargetMode",
             Name::External => b"External",
             Name::Target => b"Target",
+            Name::RelationType => b"Type",
+            Name::ToOleObject => b"/oleObject",
+            Name::ToPackage => b"/package",
+            Name::ToCustomXml => b"/customXml",
+            Name::ToCustomXmlProps => b"/customXmlProps",
             Name::Embeddings => b"/word/embeddings/",
             Name::ContentType => b"contentType",
             Name::VbaProject => b"application/vnd.ms-office.vbaProject",

@@ -31,10 +31,14 @@ pub enum When {
     Is(Name, Name),
     /// Those of which this attribute begins so.
     Begins(Name, Name),
+    /// Those of which this attribute ends so.
+    Ends(Name, Name),
     /// Those with another `type` than `normal`, as separators of notes have.
     Separates,
     /// Those with no `type` but `normal`, whose `id` no element names for this fact.
     Spare(Fact),
+    /// Those whose `name` an element names for this fact.
+    Led(Fact),
 }
 
 /// What is told of an element.
@@ -50,6 +54,8 @@ pub enum Value {
     Shown,
     /// This attribute, and what the first element in it shows.
     Held(Name),
+    /// The name of the part to which this attribute of a relationship leads.
+    Lead(Name),
 }
 
 /// A fact, and which elements are its finds.

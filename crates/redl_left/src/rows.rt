@@ -4,9 +4,9 @@ use crate::fact::Fact;
 use crate::name::Name;
 use crate::row::{Row, Value, When, Where};
 
-/// What names a comment, a footnote or an endnote by its id, and who is named as an author. The id of a separator counts as named,
-/// since the settings name separators by an element of the same name.
-pub static NAMING: [Row; 6] = [
+/// What names a comment, a footnote or an endnote by its id, who is named as an author, and which parts relationships name. The id of a
+/// separator counts as named, since the settings name separators by an element of the same name.
+pub static NAMING: [Row; 11] = [
     Row {
         fact: Fact::CommentMark,
         place: Where::Word(Name::CommentReference),
@@ -43,10 +43,41 @@ pub static NAMING: [Row; 6] = [
         when: When::Has(Name::Author),
         value: Value::Attribute(Name::Author),
     },
+    // (so none of these is asked for by the rows that follow)
+    Row {
+        fact: Fact::External,
+        place: Where::Inside(Name::Relationships, Name::Relationship),
+        when: When::Is(Name::TargetMode, Name::External),
+        value: Value::Nothing,
+    },
+    Row {
+        fact: Fact::Embedded,
+        place: Where::Inside(Name::Relationships, Name::Relationship),
+        when: When::Ends(Name::RelationType, Name::ToOleObject),
+        value: Value::Lead(Name::Target),
+    },
+    Row {
+        fact: Fact::Embedded,
+        place: Where::Inside(Name::Relationships, Name::Relationship),
+        when: When::Ends(Name::RelationType, Name::ToPackage),
+        value: Value::Lead(Name::Target),
+    },
+    Row {
+        fact: Fact::CustomXml,
+        place: Where::Inside(Name::Relationships, Name::Relationship),
+        when: When::Ends(Name::RelationType, Name::ToCustomXml),
+        value: Value::Lead(Name::Target),
+    },
+    Row {
+        fact: Fact::CustomXml,
+        place: Where::Inside(Name::Relationships, Name::Relationship),
+        when: When::Ends(Name::RelationType, Name::ToCustomXmlProps),
+        value: Value::Lead(Name::Target),
+    },
 ];
 
 /// The rows of what is left. An element is a find of the first row that asks for it.
-pub static ROWS: [Row; 59] = [
+pub static ROWS: [Row; 61] = [
     Row {
         fact: Fact::Undecided,
         place: Where::Word(Name::NumberingChange),
@@ -374,6 +405,12 @@ pub static ROWS: [Row; 59] = [
     Row {
         fact: Fact::Embedded,
         place: Where::Part,
+        when: When::Led(Fact::Embedded),
+        value: Value::Nothing,
+    },
+    Row {
+        fact: Fact::Embedded,
+        place: Where::Part,
         when: When::Begins(Name::Called, Name::Embeddings),
         value: Value::Nothing,
     },
@@ -393,6 +430,12 @@ pub static ROWS: [Row; 59] = [
         fact: Fact::Macros,
         place: Where::Part,
         when: When::Is(Name::ContentType, Name::VbaData),
+        value: Value::Nothing,
+    },
+    Row {
+        fact: Fact::CustomXml,
+        place: Where::Part,
+        when: When::Led(Fact::CustomXml),
         value: Value::Nothing,
     },
     Row {

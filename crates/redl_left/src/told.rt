@@ -7,12 +7,13 @@ ghost use Rattle.redl_tree.specs.Model.Nodes.{Nodes, no_nodes, in_front};
 ghost use Rattle.redl_tree.specs.Model.View.{nodes_of, item_of};
 ghost use Rattle.redl_stamp.specs.Attribute.{attribute_value};
 ghost use Rattle.redl_left.specs.Names.{name_text};
-ghost use Rattle.redl_left.specs.Finds.{value_of, value_or_nothing, by_whom, front_shown, shown_alone, inner_shown, inner_of, after_colon};
+ghost use Rattle.redl_left.specs.Finds.{value_of, value_or_nothing, by_whom, front_shown, shown_alone, inner_shown, inner_of, after_colon, lead_from};
 
 use crate::find::Asked;
 use crate::name::Name;
 use crate::row::Value;
 use redl_io::{MemSink, Text};
+use redl_relations::target_name;
 use redl_shown::put_shown;
 use redl_stamp::attribute;
 use redl_tree::{Node, Space, has_elements};
@@ -136,14 +137,25 @@ fn held(alloc: Global, name: Name, asked: &Asked<'_>, kids: &[Node]) -> Result<T
     Text::copy_of(alloc, &text)
 }
 
-/// What a row tells of an element with these kids. `Err` means out of memory.
+// The name of the part to which an attribute leads, of a relationship that stands in this part. `Err` means out of memory.
+fn lead(alloc: Global, part: &[u8], name: Name, tail: &[u8]) -> Result<Text, AllocError>
+    ensures { IfOk result (λ text. text ≡ lead_from part.now (value_or_nothing (attribute_value tail.now (name_text name)))) }
+{
+    let target = attribute_or_nothing(alloc, tail, name.text())?;
+    let folder = target_name(alloc, part, b".")?;
+    let name = target_name(alloc, &folder, target.as_bytes())?;
+    Text::copy_of(alloc, &name)
+}
+
+/// What a row tells of an element with these kids in this part. `Err` means out of memory.
 pub(crate) fn value_of(
     alloc: Global,
+    part: &[u8],
     value: &Value,
     asked: &Asked<'_>,
     kids: &[Node],
 ) -> Result<Text, AllocError>
-    ensures { IfOk result (λ text. text ≡ value_of value.now asked.now.space asked.now.local.now asked.now.tail.now (nodes_of kids.now)) }
+    ensures { IfOk result (λ text. text ≡ value_of part.now value.now asked.now.space asked.now.local.now asked.now.tail.now (nodes_of kids.now)) }
 {
     match value {
         Value::Nothing => Text::copy_of(alloc, b""),
@@ -151,5 +163,6 @@ pub(crate) fn value_of(
         Value::Made => made(alloc, asked.local, asked.tail),
         Value::Shown => shown_alone(alloc, asked.space, kids),
         Value::Held(name) => held(alloc, *name, asked, kids),
+        Value::Lead(name) => lead(alloc, part, *name, asked.tail),
     }
 }

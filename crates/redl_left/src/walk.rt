@@ -43,7 +43,9 @@ fn is_nothing(value: &Value, told: &[u8]) -> bool
 {
     match value {
         Value::Shown => told.is_empty(),
-        Value::Nothing | Value::Attribute(_) | Value::Made | Value::Held(_) => false,
+        Value::Nothing | Value::Attribute(_) | Value::Made | Value::Held(_) | Value::Lead(_) => {
+            false
+        }
     }
 }
 
@@ -60,7 +62,7 @@ fn note_plain(
     let alloc = seen.alloc;
     match below.search.first(alloc, asked)? {
         Some(row) => {
-            let value = value_of(alloc, &row.value, asked, kids)?;
+            let value = value_of(alloc, below.part, &row.value, asked, kids)?;
             note_value(below.part, row, value.as_bytes(), seen)
         }
         None => Ok(()),
