@@ -64,6 +64,27 @@ def sizes(driven):
     driven.look(1280, 800)
 
 
+def enlarged(driven):
+    """At 400 % what is above the steps and their names leave most of the first screen to what a step shows."""
+    if driven.name == "webkit":
+        # (its driver has no zoom)
+        return
+    it = Desk(driven)
+    driven.look(1280, 1024, "light", "", 4)
+    time.sleep(0.2)
+    below = lambda selector: it.run("return document.querySelector(arguments[0]).getBoundingClientRect().bottom / innerHeight", selector)
+    told("at 400 % the first screen has the button that opens a file", below("#choose") <= 1, str(below("#choose")))
+    it.drop(("a contract with a long name, as mail programs like to make them (final) (2).xml", example("contract.xml")))
+    told("the steps and what is above them fill at most two fifths of the first screen", below("#tabs") <= 0.4, str(below("#tabs")))
+    named = [name for _, name in driven.spoken("#tabs button")]
+    same("each step has its name", [name.split(" ")[1] for name in named], ["Decide", "Others", "Standing", "Written", "Save"])
+    it.press("#dismiss")
+    top = it.run("return document.getElementById('page').getBoundingClientRect().top") + it.in_page("return page.document.querySelector('main').getBoundingClientRect().top")
+    high = it.run("return innerHeight")
+    told("the document begins on the first screen", top <= 0.85 * high, "at %d of %d" % (top, high))
+    driven.look(1280, 800)
+
+
 def by_keys(driven):
     """The whole way with the keyboard alone: to the steps, and to all that can be pressed."""
     it = contract(driven)
@@ -169,4 +190,4 @@ def papers_picture(driven):
     pictures.is_of_now(driven, "desk.png", made)
 
 
-CASES = [looks, sizes, by_keys, round_by_keys, for_readers, printed, papers_picture]
+CASES = [looks, sizes, enlarged, by_keys, round_by_keys, for_readers, printed, papers_picture]

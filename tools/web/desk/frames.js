@@ -44,6 +44,7 @@ const makePage = () => called(["page", DOCUMENT, ...signWords(), ...others.keys(
 async function showPage({ out, lines }) {
   const before = opened?.isShown ? pageParts().state() : null;
   await load(frame, out);
+  dress(frame.contentWindow, SMALL);
   if (before) pageParts().restore(before);
   frame.contentDocument.addEventListener("redline-changed", decided);
   frame.contentDocument.addEventListener("redline-save", saveFromPage);
@@ -74,13 +75,25 @@ function saveFromPage(event) {
 const stale = { standing: true, written: true };
 
 /**
+ * Gives the page in a frame more style than its own.
+ * @param {any} inner
+ * @param {string} rules
+ */
+function dress(inner, rules) {
+  const sheet = new inner.CSSStyleSheet();
+  sheet.replaceSync(rules);
+  inner.document.adoptedStyleSheets = [...inner.document.adoptedStyleSheets, sheet];
+}
+
+/** In a small window the page's title and the word before its views only take room: the desk has the document's name above it. */
+const SMALL = "@media (max-width: 40rem), (max-height: 20rem) { h1, legend { position: absolute; width: 1px; height: 1px; overflow: hidden; clip-path: inset(50%) } }";
+
+/**
  * Takes away what can be decided in the page of the written document, since it is there to be read.
  * @param {any} inner
  */
 function freeze(inner) {
-  const sheet = new inner.CSSStyleSheet();
-  sheet.replaceSync("body > header, body > aside, dialog { display: none !important } body { grid: 'text' minmax(0, 1fr) / minmax(0, 1fr) !important } main [data-revision] { cursor: auto }");
-  inner.document.adoptedStyleSheets = [...inner.document.adoptedStyleSheets, sheet];
+  dress(inner, "body > header, body > aside, dialog { display: none !important } body { grid: 'text' minmax(0, 1fr) / minmax(0, 1fr) !important } main [data-revision] { cursor: auto }");
   for (const kind of ["click", "keydown", "keyup", "beforeunload"])
     inner.addEventListener(kind, (/** @type {Event} */ event) => event.stopImmediatePropagation(), true);
 }

@@ -112,7 +112,7 @@ async function openDocument({ name, bytes }, isTidy = false) {
   element("rank").value = "0";
   forgetEarlier();
   showLocks();
-  element("name").textContent = name;
+  element("name").textContent = element("name").title = name;
   element("count").textContent = counted(opened.count, "change");
   document.title = name + " - Redline";
   document.body.dataset.state = "open";

@@ -13,7 +13,7 @@ const AT_ONCE = 200;
 function table(caption, heads, rows, classes = []) {
   const body = make("tbody");
   const made = make("table", {},
-    ...(caption ? [make("caption", { textContent: caption })] : []),
+    ...(caption ? [make("caption", {}, make("span", { textContent: caption }))] : []),
     make("thead", {}, make("tr", {}, ...heads.map((head) => make("th", { scope: "col", className: head.startsWith("#") ? "number" : "", textContent: head.replace(/^#/, "") })))),
     body);
   const whole = make("div", { className: "scrolled" }, made);
