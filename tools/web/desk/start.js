@@ -50,7 +50,7 @@ async function openFile(file, isTidy = file.isTidy ?? false) {
   choose("decide");
   tell({
     what: count ? "“" + file.name + "” is open: " + counted(count, "change") + " to decide." : "“" + file.name + "” has no tracked changes.",
-    todo: count || note ? note : "If you expected some, Track Changes was off, or they were accepted before. There is nothing to decide here.",
+    todo: count ? ["Choose one, and press Accept or Reject. When you are done, go to step 5.", note].filter(Boolean).join(" ") : note || "If you expected some, Track Changes was off, or they were accepted before. There is nothing to decide here.",
     line: said.join("\n"),
   });
 }
