@@ -1,6 +1,7 @@
 """Where memory or stack end: real documents and calls, in a desk whose worker and program are as they are.
 
-Only the most that the program's memory may grow to, or where its stack begins, is another number here, as on a small computer.
+Only the most that the program's memory may grow to, where its stack begins, or from how deep it is called is another here, as on a
+small computer.
 """
 import base64
 import gzip
@@ -8,6 +9,7 @@ import os
 import re
 import sys
 
+from desk_faults import altered
 from desk_seen import Desk, built, example, read
 from page_large import large_package
 from page_seen import TOP, same, told
@@ -120,4 +122,42 @@ def little_stack(driven):
     told("the next call goes well", it.saves("#save-document", "contract.decided.xml").startswith(b"<?xml"))
 
 
-CASES = [little_memory, little_stack, deep_documents]
+# The program is called from so deep in other calls that the engine's own stack ends in the middle of it.
+FROM_DEEP = """
+addEventListener("message", () => {
+  if (self.isReplaced) return;
+  self.isReplaced = true;
+  const before = callProgram, nested = (depth, then) => (depth ? nested(depth - 1, then) : then());
+  const fits = (depth) => { try { nested(depth, () => 0); return true; } catch { return false; } };
+  callProgram = (program, words, files, put) => {
+    if (!words.includes("settle")) return before(program, words, files, put);
+    let [least, most] = [0, 1 << 20];
+    while (most - least > 100) [least, most] = fits((least + most) >> 1) ? [(least + most) >> 1, most] : [least, (least + most) >> 1];
+    try {
+      return nested(Math.floor(least * 0.9), () => before(program, words, files, put));
+    } catch (error) {
+      throw /wasm/i.test(error.stack) ? error : new Error("the stack ended before the program: " + error.stack);
+    }
+  };
+});
+"""
+
+
+def stack_ends(driven):
+    """The browser's own stack ends while the program works: its call ends, it is told, and nothing is saved."""
+    it = Desk(driven, altered(driven, FROM_DEEP))
+    it.drop(("tables.xml", (make.FRONT + make.DEEP["tables"]() + make.BACK).encode()))
+    it.decide(1, "accept")
+    decided = it.decisions()
+    it.step("save")
+    it.run("document.querySelector('input[name=how][value=accept]').click()")
+    it.press("#save-document")
+    said = it.text("#save-document-told")
+    told("the end of the browser's stack is told", "Try another browser" in said and "the program's stack is too small" in said, said)
+    told("and nothing is saved", not os.path.exists(os.path.join(driven.folder, "tables.accepted.xml")))
+    same("the document and the decisions stay", [it.text("#name"), it.decisions()], ["tables.xml", decided])
+    it.run("document.querySelector('input[name=how]').click()")
+    told("and the next call goes well", it.saves("#save-document", "tables.decided.xml").startswith(b"<"))
+
+
+CASES = [little_memory, little_stack, stack_ends, deep_documents]
