@@ -8,7 +8,7 @@ from desk_seen import Desk, example
 from page_looks import CONTRAST
 from page_seen import ENTER, TAB, same, told, wait
 
-SHIFT, END = "\ue008", "\ue010"
+SHIFT, END, RIGHT = "\ue008", "\ue010", "\ue014"
 STEPS = ["decide", "others", "standing", "written", "save"]
 WIDE = "return [document.documentElement.scrollWidth, innerWidth]"
 FOCUS = """
@@ -82,6 +82,10 @@ def enlarged(driven):
     top = it.run("return document.getElementById('page').getBoundingClientRect().top") + it.in_page("return page.document.querySelector('main').getBoundingClientRect().top")
     high = it.run("return innerHeight")
     told("the document begins on the first screen", top <= 0.85 * high, "at %d of %d" % (top, high))
+    it.step("standing")
+    it.run("document.querySelector('#tables .scrolled').focus()")
+    driven.keys(3 * RIGHT)
+    told("a wide table is moved by the keyboard", wait(lambda: it.run("return document.querySelector('#tables .scrolled').scrollLeft") > 0))
     driven.look(1280, 800)
 
 
@@ -89,7 +93,7 @@ def by_keys(driven):
     """The whole way with the keyboard alone: to the steps, and to all that can be pressed."""
     it = contract(driven)
     it.run("document.getElementById('tab-decide').focus()")
-    driven.keys("\ue014")
+    driven.keys(RIGHT)
     it.after()
     same("an arrow goes to the next step", it.run("return [document.activeElement.id, document.getElementById('others').hidden]"), ["tab-others", False])
     driven.keys(END)

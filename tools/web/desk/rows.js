@@ -16,7 +16,9 @@ function table(caption, heads, rows, classes = []) {
     ...(caption ? [make("caption", {}, make("span", { textContent: caption }))] : []),
     make("thead", {}, make("tr", {}, ...heads.map((head) => make("th", { scope: "col", className: head.startsWith("#") ? "number" : "", textContent: head.replace(/^#/, "") })))),
     body);
-  const whole = make("div", { className: "scrolled" }, made);
+  const whole = make("div", { className: "scrolled", role: "group", "aria-label": caption || "Table" }, made);
+  // (a table that is wider than the window is moved by the keyboard too)
+  new ResizeObserver(() => (whole.tabIndex = whole.scrollWidth > whole.clientWidth ? 0 : -1)).observe(whole);
   const cell = (/** @type {any} */ it, /** @type {number} */ at) => {
     if (it instanceof HTMLTableCellElement) return it;
     const name = at === 0 ? "th" : "td";
