@@ -1,5 +1,5 @@
 -- What a pass leaves of a package that was read is read again.
-use Rattle.std.proofs.Common.{◌≡◌, ◌≤◌, ◌∙◌, refl, sym, ap, subst, arith, ℕ, ◌+◌, List, [], ◌∷◌, ◌++◌, append-nil, true}
+use Rattle.std.proofs.Common.{◌≡◌, ◌≤◌, ◌∙◌, refl, sym, ap, subst, arith, ℕ, ◌+◌, ◌*◌, max, List, [], ◌∷◌, ◌++◌, append-nil, true}
 use Rattle.std.proofs.lemmas.Bool.{and_parts}
 use Rattle.redl_grammar.specs.Characters.{IsText}
 use Rattle.redl_grammar.specs.declared.section.Section.TheVariants.{BeforeRoot, AfterRoot}
@@ -11,6 +11,7 @@ use Rattle.redl_stamp.specs.Attribute.{attribute_value}
 use Rattle.redl_tree.specs.Decisions.Packages.{StoryRule, changed_in, changed_package, pass_package, pass_rule, stories}
 use Rattle.redl_tree.specs.Model.Count.{count}
 use Rattle.redl_tree.specs.Model.Nodes.{Tag, Nodes, no_nodes, bytes, element, ◌⊕◌}
+use Rattle.redl_tree.specs.Model.Shapes.{depth_of}
 use Rattle.redl_tree.specs.Model.Text.{element_text, text}
 use Rattle.redl_tree.specs.Revisions.Labels.{unlabelled_tag, unlabelled}
 use Rattle.redl_tree.specs.Revisions.Numbers.{number_rule, numbered_package_by}
@@ -26,13 +27,14 @@ use Rattle.redl_reread_sound.specs.Together.{together, meet_well}
 use Rattle.redl_reread_sound.proofs.Alone.{sound-again}
 use Rattle.redl_reread_sound.proofs.AloneShape.{shape-again}
 use Rattle.redl_reread_sound.proofs.Counts.{package-few}
+use Rattle.redl_reread_sound.proofs.Depths.{package-depth}
 use Rattle.redl_reread_sound.proofs.Legal.{read-live, read-close, closes-stays, closes-ended, read-unlabelled, read-labelled, element-text, nodes-text, read-tag, none-together, legal-together}
 use Rattle.redl_reread_sound.proofs.Parts.{refusal-changed}
 use Rattle.redl_reread_sound.proofs.PassedScopes.{undeclared, stories-declare}
 use Rattle.redl_reread_sound.proofs.ReadNodes.{IsReadTag, IsReadStretch, AreRead, IsReadDocument, document-read}
 use Rattle.redl_reread_sound.proofs.Scoped.{InStories, in-stories, all-changed, none-inside}
 use Rattle.redl_reread_sound.proofs.Texts.{text-append}
-use Rattle.redl_reread_sound.proofs.TogetherLaws.{text-together, count-together}
+use Rattle.redl_reread_sound.proofs.TogetherLaws.{text-together, depth-together, count-together}
 
 -- ---- the top of a document: nothing but the kids of its root changes
 
@@ -184,6 +186,7 @@ module _ (whole : List ℕ) (nodes : Nodes) (says : List Say) (reading : IsReadi
         shape = shape-again (left says nodes) ∙ refusal-changed pass_rule says made ∙ shape-numbered attribute_value nodes;
         sound = sound-again (left says nodes) has_id declares ∙ soundness attribute_value has_id declares says made package_;
         few = few;
+        shallow = shallow;
       }
     where
       count-bare : (x : Nodes) → count (unlabelled x) ≡ count x
@@ -196,3 +199,15 @@ module _ (whole : List ℕ) (nodes : Nodes) (says : List Say) (reading : IsReadi
           let same : count (numbered_package_by attribute_value nodes) ≡ count nodes =
           sym (count-bare (numbered_package_by attribute_value nodes)) ∙ ap count (unlabelled-numbered attribute_value nodes) ∙ count-bare nodes in
           omega (arith, count-bare (together (left says nodes)), count-together (left says nodes), package-few says (numbered_package_by attribute_value nodes), same)
+
+      depth-bare : (x : Nodes) → depth_of (unlabelled x) ≡ depth_of x
+      depth-bare no_nodes = refl
+      depth-bare (bytes b rest) = depth-bare rest
+      depth-bare (element tag kids rest) =
+          ap (λ n. max (n + 1) (depth_of (unlabelled rest))) (depth-bare kids) ∙ ap (λ n. max (depth_of kids + 1) n) (depth-bare rest)
+
+      shallow : depth_of (again (left says nodes)) ≤ 2 * depth_of nodes
+      shallow =
+          let made = numbered_package_by attribute_value nodes in
+          let same : depth_of made ≡ depth_of nodes = sym (depth-bare made) ∙ ap depth_of (unlabelled-numbered attribute_value nodes) ∙ depth-bare nodes in
+          omega (arith, depth-bare (together (left says nodes)), depth-together (left says nodes), package-depth says made, same)
