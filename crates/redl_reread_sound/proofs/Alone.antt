@@ -105,7 +105,7 @@ change-alone declares Marker nodes = refl
 -- ---- the rules
 
 -- a test that looks at no stretch
-abbrev Deaf : Test → Type 0
+abbrev pub Deaf : Test → Type 0
 Deaf test = (ancestors : List Tag) (tag : Tag) (kids : Nodes) → test ancestors tag (alone kids) ≡ test ancestors tag kids
 
 abbrev AreDeaf : List Test → Type 0
@@ -241,7 +241,7 @@ holds-unlabelled test blind nodes = ap (holds test) (stories-bare [] nodes) ∙ 
 -- ---- a package that is read again
 
 module _ (nodes : Nodes) where
-  same-holds : (test : Test) → Blind test → Deaf test → holds test (stories (unlabelled (together nodes))) ≡ holds test (stories nodes)
+  pub same-holds : (test : Test) → Blind test → Deaf test → holds test (stories (unlabelled (together nodes))) ≡ holds test (stories nodes)
   same-holds test blind deaf = holds-unlabelled test blind (together nodes) ∙ holds-together test deaf nodes
 
   same-sound : (rules : List Test) → AreBlind rules → AreDeaf rules
