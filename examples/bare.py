@@ -22,8 +22,10 @@ OBJECTS = {
     "sym": "symbol", "ptab": "ptab", "softHyphen": "softHyphen",
 }
 FIELDS = ("begin", "separate", "end")
+# How much of a field's code is looked at, and how many fields are counted in a result that is left out.
+CODE, DEPTH = 64, 512
 # What counts pages or tells the time.
-COUNTED = ("PAGE", "NUMPAGES", "SECTIONPAGES", "DATE", "TIME", "SAVEDATE", "PRINTDATE", "CREATEDATE", "EDITTIME")
+COUNTED = (b"PAGE", b"NUMPAGES", b"SECTIONPAGES", b"DATE", b"TIME", b"SAVEDATE", b"PRINTDATE", b"CREATEDATE", b"EDITTIME")
 ESCAPES = str.maketrans({"\\": "\\\\", "\t": "\\t", "\n": "\\n", "\r": "\\r"})
 
 
@@ -43,18 +45,65 @@ def mark(kind, element):
     return (MARKS.index(kind), author.encode(), date.encode()[:16]) + stamp(element)
 
 
+class Fields:
+    """The code that is being read, if one is, and how many fields are open from one on whose result is left out."""
+
+    def __init__(self):
+        self.code, self.silent = None, 0
+
+    def read(self, text):
+        """Goes past text and says whether it is shown."""
+        if self.code is not None:
+            self.code = (self.code + text.encode())[:CODE]
+        return self.silent == 0
+
+    def meet(self, part):
+        """Goes past a part of a field and says whether it is shown."""
+        was_silent, counted = self.silent > 0, self.code is not None and is_counted(self.code)
+        if part == "begin" and was_silent:
+            self.silent = min(self.silent + 1, DEPTH)
+        elif part == "begin":
+            self.code = b""
+        else:
+            self.code = None
+            if part == "end":
+                self.silent = max(self.silent - 1, 0)
+            elif counted:
+                self.silent = 1
+        return not was_silent or self.silent == 0
+
+
 class Writer:
     """The lines so far, the last of which may be one of text that goes on."""
 
     def __init__(self):
-        self.lines, self.marks = [], None
+        self.lines, self.marks, self.fields = [], None, Fields()
 
     def line(self, text):
         self.lines.append(text)
         self.marks = None
 
+    def story(self, kind):
+        """The begin of a story, in which no field goes on."""
+        self.line("= " + kind)
+        self.fields = Fields()
+
     def text(self, round_it, text):
         """Units of text, under the marks of what is round them."""
+        if self.fields.read(text):
+            self.put(round_it, escaped(text))
+
+    def object(self, round_it, name):
+        """A unit that is no character."""
+        if self.fields.silent == 0:
+            self.put(round_it, "\\[%s]" % name)
+
+    def part(self, round_it, part):
+        """A part of a field."""
+        if self.fields.meet(part):
+            self.put(round_it, "\\[field %s]" % part)
+
+    def put(self, round_it, text):
         if not text:
             return
         if round_it == self.marks:
@@ -85,7 +134,7 @@ def is_change_of_run(element):
 
 def is_counted(code):
     """Whether the first word of a field's code, before its switches, is one of these names."""
-    return re.match(r"[ \t\n\r]*([^ \t\n\r\\]*)", code).group(1).upper() in COUNTED
+    return re.match(rb"[ \t\n\r]*([^ \t\n\r\\]*)", code).group(1).upper() in COUNTED
 
 
 def put(writer, nodes, round_it):
@@ -108,11 +157,9 @@ def put_element(writer, element, round_it):
         round_it = round_it | {mark("run-props", run_change(element))}
     if is_w:
         put_begin(writer, element, round_it)
-    is_field = is_w and local == "fldSimple"
-    if not is_field or not is_counted(element.attribute("instr") or ""):
-        put(writer, element.kids, round_it)
-    if is_field:
-        writer.text(round_it, "\\[field end]")
+    put(writer, element.kids, round_it)
+    if is_w and local == "fldSimple":
+        writer.part(round_it, "end")
     if is_w and local == "p":
         writer.line(fields(round_it) + "*paragraph")
 
@@ -123,15 +170,17 @@ def put_begin(writer, element, round_it):
     if local in ("tr", "tc"):
         writer.line("%s*%s" % (fields(round_it), {"tr": "row", "tc": "cell"}[local]))
     elif local in TEXTS:
-        writer.text(round_it, "".join(escaped(texts.shown(kid)) for kid in element.kids if isinstance(kid, str)))
+        writer.text(round_it, "".join(texts.shown(kid) for kid in element.kids if isinstance(kid, str)))
     elif local in CHARACTERS:
-        writer.text(round_it, escaped(CHARACTERS[local]))
+        writer.text(round_it, CHARACTERS[local])
     elif local in OBJECTS:
-        writer.text(round_it, "\\[%s]" % OBJECTS[local])
+        writer.object(round_it, OBJECTS[local])
     elif local == "fldChar" and element.attribute("fldCharType") in FIELDS:
-        writer.text(round_it, "\\[field %s]" % element.attribute("fldCharType"))
+        writer.part(round_it, element.attribute("fldCharType"))
     elif local == "fldSimple":
-        writer.text(round_it, "\\[field begin]%s\\[field separate]" % escaped(element.attribute("instr") or ""))
+        writer.part(round_it, "begin")
+        writer.text(round_it, element.attribute("instr") or "")
+        writer.part(round_it, "separate")
 
 
 def named(package):
@@ -202,14 +251,14 @@ def bare_text(package):
     """The bare text, as bytes."""
     writer, roots, ids = Writer(), [root for _, root in package.stories], named(package)
     for root in stories_in_order(package):
-        writer.line("= " + STORIES[root.local])
+        writer.story(STORIES[root.local])
         put(writer, root.kids, frozenset())
     for kind in NOTES:
         notes = [note for root in roots for note in reading.kids_named(root.kids, kind) if note.attribute("type") is None]
         for ident in ids[kind]:
             for note in notes:
                 if (note.written_value("id") or "") == ident:
-                    writer.line("= " + kind)
+                    writer.story(kind)
                     put(writer, note.kids, frozenset())
     return "".join(line + "\n" for line in writer.lines).encode()
 

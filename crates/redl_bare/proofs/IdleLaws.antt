@@ -2,7 +2,7 @@
 use Rattle.std.proofs.Common.{◌≡◌, ◌∙◌, refl, sym, ap, ℕ, List, [], ◌∷◌, ◌++◌, Bool, true, false, ◌&&◌, ◌||◌, codes, bytes_eq, Some, None, append-nil, if◌then◌else◌}
 use Rattle.std.proofs.Math.Bool.{and-false}
 use Rattle.std.specs.Prelude.{is_some}
-use Rattle.std.proofs.lemmas.List.Concat.{flat_map-append}
+use Rattle.std.proofs.lemmas.List.{map-append}
 use Rattle.redl_tree.specs.Model.Nodes.{Tag, Nodes, no_nodes, bytes, element, ◌⊕◌}
 use Rattle.redl_tree.specs.Model.IdleTexts.{idle_nodes}
 use Rattle.redl_tree.specs.Roles.Names.{is, is_any, is_w, of_w}
@@ -18,14 +18,15 @@ use Rattle.redl_reading.specs.Steps.{or_else}
 use Rattle.redl_idle.specs.Shows.{shows}
 use Rattle.redl_idle.proofs.RoleLaws.{name_same, quiet_same}
 use Rattle.redl_bare.specs.Marks.{Marks, stamp_in, value_in, is_run_change, change_in, run_change, format_mark, own_mark, with_own, marks_inside}
-use Rattle.redl_bare.specs.Units.{Text, text, thing, member, story, BareUnit, has_line, is_other, is_left_out, is_text, field_inside, open_inside, place_inside, field_texts, short_texts, start_texts, end_texts, start_things, open_units, start_units, end_things, end_units, is_open_place, in_marks, byte_texts, units_in}
-use Rattle.redl_bare.specs.Units.{byte, object, picture, footnote_reference, endnote_reference, symbol, place_tab, soft_hyphen, field_part}
-use Rattle.redl_bare.specs.BareText.{text_body, texts_body}
-use Rattle.redl_bare.specs.Inside.Idle.{tag_with, texts_at, open_idle, idle_inside, idle_rule, texts_in}
+use Rattle.redl_bare.specs.Units.{Text, text, thing, member, story, BareUnit, has_line, is_other, is_left_out, is_text, open_inside, place_inside, field_texts, short_texts, start_texts, end_texts, start_things, open_units, start_units, end_things, end_units, is_open_place, in_marks, byte_texts, units_in}
+use Rattle.redl_bare.specs.Units.{byte, object, field_part}
+use Rattle.redl_bare.specs.Inside.Idle.{text_number, numbers, numbered, tag_with, texts_at, open_idle, idle_inside, idle_rule, texts_in}
+use Rattle.redl_bare.proofs.FieldLaws.{in_marks-append, numbers_back}
+use Rattle.redl_bare.specs.declared.object.Object.TheVariants.{Picture, FootnoteReference, EndnoteReference, Symbol, PlaceTab, SoftHyphen}
 use Rattle.redl_bare.specs.declared.units.Thing.TheVariants.{Paragraph, Row, Cell}
 use Rattle.redl_bare.specs.declared.units.Story.TheVariants.{Footnote, Endnote}
 use Rattle.redl_bare.specs.declared.place.BarePlace.{BarePlace}
-use Rattle.redl_bare.specs.declared.place.BarePlace.TheVariants.{Open, InText, InRun, InField, InCounted, Quiet, Silent}
+use Rattle.redl_bare.specs.declared.place.BarePlace.TheVariants.{Open, InText, InRun, InField, Quiet, Silent}
 
 -- ---- one element
 
@@ -35,12 +36,12 @@ short_of w local tail =
     if w && bytes_eq local (codes "tab") then byte 9 ∷ []
     else if (w && bytes_eq local (codes "br")) || ((w && bytes_eq local (codes "cr")) || false) then byte 10 ∷ []
     else if w && bytes_eq local (codes "noBreakHyphen") then byte 226 ∷ byte 128 ∷ byte 145 ∷ []
-    else if (w && bytes_eq local (codes "drawing")) || ((w && bytes_eq local (codes "pict")) || ((w && bytes_eq local (codes "object")) || false)) then object picture ∷ []
-    else if w && bytes_eq local (codes "footnoteReference") then object footnote_reference ∷ []
-    else if w && bytes_eq local (codes "endnoteReference") then object endnote_reference ∷ []
-    else if w && bytes_eq local (codes "sym") then object symbol ∷ []
-    else if w && bytes_eq local (codes "ptab") then object place_tab ∷ []
-    else if w && bytes_eq local (codes "softHyphen") then object soft_hyphen ∷ []
+    else if (w && bytes_eq local (codes "drawing")) || ((w && bytes_eq local (codes "pict")) || ((w && bytes_eq local (codes "object")) || false)) then object Picture ∷ []
+    else if w && bytes_eq local (codes "footnoteReference") then object FootnoteReference ∷ []
+    else if w && bytes_eq local (codes "endnoteReference") then object EndnoteReference ∷ []
+    else if w && bytes_eq local (codes "sym") then object Symbol ∷ []
+    else if w && bytes_eq local (codes "ptab") then object PlaceTab ∷ []
+    else if w && bytes_eq local (codes "softHyphen") then object SoftHyphen ∷ []
     else if w && bytes_eq local (codes "fldChar") then field_part (value_in tail (codes "fldCharType"))
     else []
 
@@ -93,7 +94,6 @@ start_idle Quiet marks in_run tag i =
 start_idle InRun marks in_run tag i = open_idle_units marks in_run tag i
 start_idle InText marks in_run tag i = open_idle_units marks in_run tag i
 start_idle InField marks in_run tag i = open_idle_units marks in_run tag i
-start_idle InCounted marks in_run tag i = refl
 start_idle Open marks in_run tag i = open_idle_units marks in_run tag i
 
 no_end_things : (place : BarePlace) (marks : Marks) (in_run : Bool) (tag : Tag) → Idle in_run tag → end_things place marks tag ≡ []
@@ -125,25 +125,24 @@ text_same in_run tag i =
     ∙ ap (λ d. is "t" tag || (is "instrText" tag || (d || false))) (has-not "delInstrText" in_run tag i refl)
     ∙ ap (λ w. (w && bytes_eq tag.local (codes "t")) || ((w && bytes_eq tag.local (codes "instrText")) || false)) i.space
 
-abbrev in_line : Tag → Bool → Bool → BarePlace
-in_line tag r field = if r then InRun else if field then field_inside (value_in tag.tail (codes "instr")) else Open
+abbrev in_line : Bool → Bool → BarePlace
+in_line r field = if r then InRun else if field then InField else Open
 
-open_same : (in_run : Bool) (tag : Tag) → Idle in_run tag → open_inside tag ≡ open_idle tag.local tag.tail
+open_same : (in_run : Bool) (tag : Tag) → Idle in_run tag → open_inside tag ≡ open_idle tag.local
 open_same in_run tag i =
-    ap (λ l. if l then Silent else if is_quiet tag then Quiet else if is_text tag then InText else in_line tag (is "r" tag) (is "fldSimple" tag)) (not_left_out in_run tag i)
-    ∙ ap (λ q. if q then Quiet else if is_text tag then InText else in_line tag (is "r" tag) (is "fldSimple" tag)) (quiet_same in_run tag i)
-    ∙ ap (λ t. if is "rPr" (of_w tag.local) then Quiet else if t then InText else in_line tag (is "r" tag) (is "fldSimple" tag)) (text_same in_run tag i)
-    ∙ ap (λ r. if is "rPr" (of_w tag.local) then Quiet else if is_any ("t" ∷ "instrText" ∷ []) (of_w tag.local) then InText else in_line tag r (is "fldSimple" tag))
+    ap (λ l. if l then Silent else if is_quiet tag then Quiet else if is_text tag then InText else in_line (is "r" tag) (is "fldSimple" tag)) (not_left_out in_run tag i)
+    ∙ ap (λ q. if q then Quiet else if is_text tag then InText else in_line (is "r" tag) (is "fldSimple" tag)) (quiet_same in_run tag i)
+    ∙ ap (λ t. if is "rPr" (of_w tag.local) then Quiet else if t then InText else in_line (is "r" tag) (is "fldSimple" tag)) (text_same in_run tag i)
+    ∙ ap (λ r. if is "rPr" (of_w tag.local) then Quiet else if is_any ("t" ∷ "instrText" ∷ []) (of_w tag.local) then InText else in_line r (is "fldSimple" tag))
     (name_same in_run tag i (codes "r"))
-    ∙ ap (λ f. if is "rPr" (of_w tag.local) then Quiet else if is_any ("t" ∷ "instrText" ∷ []) (of_w tag.local) then InText else in_line tag (is "r" (of_w tag.local)) f)
+    ∙ ap (λ f. if is "rPr" (of_w tag.local) then Quiet else if is_any ("t" ∷ "instrText" ∷ []) (of_w tag.local) then InText else in_line (is "r" (of_w tag.local)) f)
     (name_same in_run tag i (codes "fldSimple"))
 
-inside_same : (place : BarePlace) (in_run : Bool) (tag : Tag) → Idle in_run tag → place_inside place tag ≡ idle_inside place tag.local tag.tail
+inside_same : (place : BarePlace) (in_run : Bool) (tag : Tag) → Idle in_run tag → place_inside place tag ≡ idle_inside place tag.local
 inside_same Silent in_run tag i = refl
 inside_same Quiet in_run tag i = refl
 inside_same InText in_run tag i = open_same in_run tag i
 inside_same InField in_run tag i = open_same in_run tag i
-inside_same InCounted in_run tag i = refl
 inside_same Open in_run tag i = open_same in_run tag i
 inside_same InRun in_run tag i =
     ap (λ b. if b then Silent else open_inside tag) (name_same in_run tag i (codes "rPr"))
@@ -174,10 +173,6 @@ marks_idle marks in_run tag kids i h =
 
 -- ---- nodes
 
-in_marks-append : (marks : Marks) (xs ys : List Text) → in_marks marks (xs ++ ys) ≡ in_marks marks xs ++ in_marks marks ys
-in_marks-append marks [] ys = refl
-in_marks-append marks (x ∷ xs) ys = ap (λ us. text marks x ∷ us) (in_marks-append marks xs ys)
-
 units_texts : (place : BarePlace) (marks : Marks) (in_run : Bool) (x : Nodes) → is_idle_in in_run x ≡ true → units_in place marks x ≡ in_marks marks (texts_in place x)
 units_texts place marks in_run no_nodes h = refl
 units_texts place marks in_run (bytes b rest) h =
@@ -197,35 +192,40 @@ units_texts place marks in_run (element tag kids rest) h =
     ∙ ap (λ (us : List BareUnit). in_marks marks (here ++ below) ++ us) (units_texts place marks in_run rest p.later)
     ∙ sym (in_marks-append marks (here ++ below) (texts_in place rest))
 
-body-append : (xs ys : List Text) → texts_body (xs ++ ys) ≡ texts_body xs ++ texts_body ys
-body-append xs ys = flat_map-append text_body xs ys
+numbers-append : (xs ys : List Text) → numbers (xs ++ ys) ≡ numbers xs ++ numbers ys
+numbers-append xs ys = map-append text_number xs ys
 
 texts_at-same : (place : BarePlace) (tag : Tag) → is_w tag.space ≡ true → texts_at place tag ≡ texts_at place (tag_with tag.local tag.tail)
 texts_at-same place tag e = ap (λ (ts : List Text). if is_open_place place then ts else []) (texts_w tag e)
 
-texts_shown : (place : BarePlace) (in_run : Bool) (x : Nodes) → is_idle_in in_run x ≡ true → texts_body (texts_in place x) ≡ shows idle_rule place x
+texts_shown : (place : BarePlace) (in_run : Bool) (x : Nodes) → is_idle_in in_run x ≡ true → numbers (texts_in place x) ≡ shows idle_rule place x
 texts_shown place in_run no_nodes h = refl
 texts_shown place in_run (bytes b rest) h =
-    body-append (byte_texts place b) (texts_in place rest) ∙ ap (λ (t : List ℕ). texts_body (byte_texts place b) ++ t) (texts_shown place in_run rest h)
+    numbers-append (byte_texts place b) (texts_in place rest) ∙ ap (λ (t : List ℕ). numbers (byte_texts place b) ++ t) (texts_shown place in_run rest h)
 texts_shown place in_run (element tag kids rest) h =
     let p = idle_parts in_run tag kids rest h in
     let inner = place_inside place tag in
-    let own = texts_body (texts_at place (tag_with tag.local tag.tail)) in
+    let own = numbers (texts_at place (tag_with tag.local tag.tail)) in
     let below = texts_in inner kids ++ end_texts inner in
-    body-append (texts_at place tag ++ below) (texts_in place rest)
-    ∙ ap (λ (t : List ℕ). t ++ texts_body (texts_in place rest)) (body-append (texts_at place tag) below)
-    ∙ ap (λ (ts : List Text). (texts_body ts ++ texts_body below) ++ texts_body (texts_in place rest)) (texts_at-same place tag p.own.space)
-    ∙ ap (λ (t : List ℕ). (own ++ t) ++ texts_body (texts_in place rest))
-    (body-append (texts_in inner kids) (end_texts inner) ∙ ap (λ (t : List ℕ). t ++ texts_body (end_texts inner)) (texts_shown inner (is "r" tag) kids p.below)
-    ∙ ap (λ i. shows idle_rule i kids ++ texts_body (end_texts i)) (inside_same place in_run tag p.own))
-    ∙ ap (λ (t : List ℕ). (own ++ (shows idle_rule (idle_inside place tag.local tag.tail) kids ++ texts_body (end_texts (idle_inside place tag.local tag.tail)))) ++ t) (texts_shown place in_run rest p.later)
+    numbers-append (texts_at place tag ++ below) (texts_in place rest)
+    ∙ ap (λ (t : List ℕ). t ++ numbers (texts_in place rest)) (numbers-append (texts_at place tag) below)
+    ∙ ap (λ (ts : List Text). (numbers ts ++ numbers below) ++ numbers (texts_in place rest)) (texts_at-same place tag p.own.space)
+    ∙ ap (λ (t : List ℕ). (own ++ t) ++ numbers (texts_in place rest))
+    (numbers-append (texts_in inner kids) (end_texts inner) ∙ ap (λ (t : List ℕ). t ++ numbers (end_texts inner)) (texts_shown inner (is "r" tag) kids p.below)
+    ∙ ap (λ i. shows idle_rule i kids ++ numbers (end_texts i)) (inside_same place in_run tag p.own))
+    ∙ ap (λ (t : List ℕ). (own ++ (shows idle_rule (idle_inside place tag.local) kids ++ numbers (end_texts (idle_inside place tag.local)))) ++ t) (texts_shown place in_run rest p.later)
 
 -- what a list keeps as text
-pub units_of_idle : (place : BarePlace) (marks : Marks) (t : List ℕ) → units_in place marks (idle_nodes t) ≡ in_marks marks (texts_in place (idle_nodes t))
+units_of_idle : (place : BarePlace) (marks : Marks) (t : List ℕ) → units_in place marks (idle_nodes t) ≡ in_marks marks (texts_in place (idle_nodes t))
 units_of_idle place marks t = units_texts place marks false (idle_nodes t) (nodes_are_idle t)
 
-pub body_of_idle : (place : BarePlace) (t : List ℕ) → texts_body (texts_in place (idle_nodes t)) ≡ shows idle_rule place (idle_nodes t)
-body_of_idle place t = texts_shown place false (idle_nodes t) (nodes_are_idle t)
+numbers_of_idle : (place : BarePlace) (t : List ℕ) → numbers (texts_in place (idle_nodes t)) ≡ shows idle_rule place (idle_nodes t)
+numbers_of_idle place t = texts_shown place false (idle_nodes t) (nodes_are_idle t)
+
+-- the units of what a list keeps as text, as the walk over it says them
+pub units_shown : (place : BarePlace) (marks : Marks) (t : List ℕ) → units_in place marks (idle_nodes t) ≡ in_marks marks (numbered (shows idle_rule place (idle_nodes t)))
+units_shown place marks t =
+    units_of_idle place marks t ∙ ap (in_marks marks) (sym (numbers_back (texts_in place (idle_nodes t)))) ∙ ap (λ ns. in_marks marks (numbered ns)) (numbers_of_idle place t)
 
 -- ---- no change of a run is among them
 

@@ -1,6 +1,7 @@
 mod Rows
 pub mod LineLaws
 pub mod TextLaws
+pub mod FieldLaws
 pub mod TextPuts
 pub mod IdleLaws
 pub mod WalkLaws

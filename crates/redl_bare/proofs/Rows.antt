@@ -1,5 +1,6 @@
 -- Worked rows: the bare text, by computing.
-use Rattle.std.proofs.Common.{◌≡◌, ℕ, List, [], codes, refl}
+use Prim.Native.String.{String}
+use Rattle.std.proofs.Common.{◌≡◌, ℕ, List, [], ◌∷◌, codes, refl}
 use Rattle.redl_tree.specs.Model.Nodes.{Nodes, no_nodes, Empty, End, ◌⊕◌}
 use Rattle.redl_tree.specs.declared.kinds.Kind.TheVariants.{Mark, Row, Change}
 use Rattle.redl_tree.specs.declared.kinds.Trace.TheVariants.{Ins, Del, To}
@@ -14,12 +15,12 @@ use Rattle.redl_grammar.specs.ScanNames.{name_at, word_at, char_at, name_end, na
 use Rattle.redl_grammar.specs.ScanTags.{attribute_in, attribute_at, equated_at, quoted_at, quote_at, is_value}
 use Rattle.redl_reading.specs.Lists.{field_at}
 use lib.Utf8.{encode}
-use Rattle.redl_bare.specs.Units.{story_units}
+use Rattle.redl_bare.specs.Package.{stories_units}
 use Rattle.redl_bare.specs.BareText.{units_text}
 
 -- the bare text of the document with this body
 abbrev bare : Nodes → List ℕ
-bare body = units_text (story_units (record { tag = tag_in W "w" "document" "" (End []); kids = opened "body" body }))
+bare body = units_text (stories_units (record { tag = tag_in W "w" "document" "" (End []); kids = opened "body" body } ∷ []))
 
 -- text without changes, and an element that shows a character
 plain : bare (opened "p" (run "a" ⊕ opened "r" (closed "tab" "" ⊕ opened "t" (words "b"))))
@@ -104,3 +105,51 @@ counted : bare (opened "p" (one (tag_in W "w" "fldSimple" " w:instr=\"Page\\* ro
     ≡ codes "= document\n|\\[field begin]Page\\\\* roman\\[field separate]\\[field end]\n*paragraph\n"
 unfolding attributes_of attribute_in attribute_at name_at word_at char_at name_end name_step may_start may_follow is_name_start is_name_character is_space equated_at quoted_at field_at quote_at is_value
 counted = refl
+
+-- ---- fields in several elements
+
+-- runs with a part of a field, and with a code
+abbrev part : String → Nodes
+part kind = opened "r" (closed "fldChar" kind)
+
+abbrev begin : Nodes
+begin = part " w:fldCharType=\"begin\""
+
+abbrev separate : Nodes
+separate = part " w:fldCharType=\"separate\""
+
+abbrev end : Nodes
+end = part " w:fldCharType=\"end\""
+
+abbrev code : String → Nodes
+code characters = opened "r" (opened "instrText" (words characters))
+
+-- the result of one that counts pages is left out, and what follows it isn't; capitals are of no account
+page : bare (opened "p" (begin ⊕ code " pa" ⊕ code "ge \\* roman" ⊕ separate ⊕ run "iii" ⊕ end ⊕ run "b"))
+    ≡ codes "= document\n|\\[field begin] page \\\\* roman\\[field separate]\\[field end]b\n*paragraph\n"
+unfolding attributes_of attribute_in attribute_at name_at word_at char_at name_end name_step may_start may_follow is_name_start is_name_character is_space equated_at quoted_at field_at quote_at is_value
+page = refl
+
+-- that of another field stays, but for that of one in it
+in_result : bare (opened "p" (begin ⊕ code "REF a" ⊕ separate ⊕ run "x" ⊕ begin ⊕ code "PAGE" ⊕ separate ⊕ run "3" ⊕ end ⊕ run "y" ⊕ end ⊕ run "z"))
+    ≡ codes "= document\n|\\[field begin]REF a\\[field separate]x\\[field begin]PAGE\\[field separate]\\[field end]y\\[field end]z\n*paragraph\n"
+unfolding attributes_of attribute_in attribute_at name_at word_at char_at name_end name_step may_start may_follow is_name_start is_name_character is_space equated_at quoted_at field_at quote_at is_value
+in_result = refl
+
+-- what is left out ends with its own field, and not with one in it
+in_counted : bare (opened "p" (begin ⊕ code "DATE" ⊕ separate ⊕ run "1" ⊕ begin ⊕ code "REF a" ⊕ separate ⊕ run "2" ⊕ end ⊕ run "3" ⊕ end ⊕ run "4"))
+    ≡ codes "= document\n|\\[field begin]DATE\\[field separate]\\[field end]4\n*paragraph\n"
+unfolding attributes_of attribute_in attribute_at name_at word_at char_at name_end name_step may_start may_follow is_name_start is_name_character is_space equated_at quoted_at field_at quote_at is_value
+in_counted = refl
+
+-- it goes over the end of a paragraph, which stays
+over_paragraphs : bare (opened "p" (begin ⊕ code "PAGE" ⊕ separate ⊕ run "3") ⊕ opened "p" (run "4" ⊕ end ⊕ run "5"))
+    ≡ codes "= document\n|\\[field begin]PAGE\\[field separate]\n*paragraph\n|\\[field end]5\n*paragraph\n"
+unfolding attributes_of attribute_in attribute_at name_at word_at char_at name_end name_step may_start may_follow is_name_start is_name_character is_space equated_at quoted_at field_at quote_at is_value
+over_paragraphs = refl
+
+-- without a result nothing is left out, and without an end all to the end of the story
+unfinished : bare (opened "p" (begin ⊕ code "PAGE" ⊕ end ⊕ run "a") ⊕ opened "p" (begin ⊕ code "PAGE" ⊕ separate ⊕ run "3") ⊕ opened "p" (run "b"))
+    ≡ codes "= document\n|\\[field begin]PAGE\\[field end]a\n*paragraph\n|\\[field begin]PAGE\\[field separate]\n*paragraph\n*paragraph\n"
+unfolding attributes_of attribute_in attribute_at name_at word_at char_at name_end name_step may_start may_follow is_name_start is_name_character is_space equated_at quoted_at field_at quote_at is_value
+unfinished = refl

@@ -6,8 +6,8 @@ use Rattle.std.proofs.lemmas.List.Concat.{flat_map-append}
 use Rattle.std.proofs.lemmas.Slice.Eq.{bytes_eq-Decides}
 use Rattle.redl_reading.specs.Lists.{front, after}
 use Rattle.redl_bare.specs.Marks.{Mark, Marks, sign_place, same_mark, same_marks}
-use Rattle.redl_bare.specs.Units.{Text, byte, object, field_begin, field_separate, in_marks}
-use Rattle.redl_bare.specs.BareText.{byte_escaped, escaped, text_body, texts_body, goes_on, closing, marks_text, text_begin, lines, line_after_all}
+use Rattle.redl_bare.specs.Units.{Text, byte, object, in_marks}
+use Rattle.redl_bare.specs.BareText.{byte_escaped, escaped, text_body, texts_body, goes_on, begun, closing, marks_text, text_begin, lines, line_after_all}
 use Rattle.redl_marks.specs.declared.sign.Sign.{Sign}
 use Rattle.redl_marks.specs.declared.sign.Sign.TheVariants.{Inserted, Deleted, MovedTo, MovedFrom, Formatted}
 use Rattle.redl_bare.specs.Inside.Escapes.{is_plain, is_empty}
@@ -54,13 +54,6 @@ pub body_empty : (texts : List Text) → is_empty (texts_body texts) ≡ is_empt
 body_empty [] = refl
 body_empty (t ∷ ts) = text_not_empty t (texts_body ts)
 
-empty_list : {A : Type 0} (xs : List A) → is_empty xs ≡ true → xs ≡ []
-empty_list [] e = refl
-empty_list (x ∷ xs) e = absurd cc
-
-pub no_texts : (texts : List Text) → texts_body texts ≡ [] → texts ≡ []
-no_texts texts e = empty_list texts (sym (body_empty texts) ∙ ap is_empty e)
-
 -- ---- texts in a line that is open with their marks
 
 going : (line : Option Marks) (marks : Marks) (texts : List Text) → goes_on line marks ≡ true
@@ -72,10 +65,6 @@ going line marks (t ∷ ts) g =
           ∙ ap (λ l. text_body t ++ l) later.0,
       ap (λ b. line_after_all (if b then line else Some marks) (in_marks marks ts)) g ∙ later.1,
     )
-
--- the line that is open once texts with these marks have begun
-abbrev pub begun : Option Marks → Marks → Option Marks
-begun line marks = if goes_on line marks then line else Some marks
 
 begun_goes_on : (line : Option Marks) (marks : Marks) → goes_on (begun line marks) marks ≡ true
 begun_goes_on line marks = at (goes_on line marks) refl
@@ -99,13 +88,6 @@ texts_line line marks (t ∷ ts) e =
 pub bytes_body : (b : List ℕ) → texts_body (map byte b) ≡ escaped b
 bytes_body [] = refl
 bytes_body (x ∷ xs) = ap (λ l. byte_escaped x ++ l) (bytes_body xs)
-
--- the begin of a field with this code
-pub field_body : (code : List ℕ) → texts_body (object field_begin ∷ (map byte code ++ (object field_separate ∷ [])))
-    ≡ codes "\\[field begin]" ++ (escaped code ++ codes "\\[field separate]")
-field_body code =
-    ap (λ l. codes "\\[field begin]" ++ l)
-    (flat_map-append text_body (map byte code) (object field_separate ∷ []) ∙ ap (λ (l : List ℕ). l ++ codes "\\[field separate]") (bytes_body code))
 
 pub bytes_empty : (b : List ℕ) → is_empty (map byte b) ≡ is_empty b
 bytes_empty [] = refl
@@ -150,24 +132,6 @@ escaped-step left b bs rest e r =
 -- a text that begins with a piece
 pub escaped-piece : (whole piece rest : List ℕ) → whole ≡ piece ++ rest → escaped whole ≡ escaped piece ++ escaped rest
 escaped-piece whole piece rest e = ap escaped e ∙ escaped-append piece rest
-
--- ---- what is empty
-
-pub empty-append : (piece rest : List ℕ) → is_empty piece ≡ true → is_empty (piece ++ rest) ≡ is_empty rest
-empty-append [] rest e = refl
-empty-append (x ∷ xs) rest e = absurd cc
-
-pub not_empty-append : (piece rest : List ℕ) → is_empty piece ≡ false → is_empty (piece ++ rest) ≡ false
-not_empty-append [] rest e = absurd cc
-not_empty-append (x ∷ xs) rest e = refl
-
-pub nothing_shown : (xs : List ℕ) → not (is_empty xs) ≡ false → xs ≡ []
-nothing_shown [] e = refl
-nothing_shown (x ∷ xs) e = absurd cc
-
-pub something_shown : (xs : List ℕ) → not (is_empty xs) ≡ true → is_empty xs ≡ false
-something_shown [] e = absurd cc
-something_shown (x ∷ xs) e = refl
 
 -- ---- the line of a member
 

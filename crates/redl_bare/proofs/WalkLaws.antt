@@ -1,5 +1,5 @@
 -- The walk goes over a list node by node.
-use Rattle.std.proofs.Common.{◌≡◌, ℕ, List, [], ◌++◌, append-nil, codes, Bool, true, false, Some, None, refl, sym, ap, ◌∙◌, append_assoc, if◌then◌else◌}
+use Rattle.std.proofs.Common.{◌≡◌, ℕ, List, [], ◌++◌, codes, Bool, true, false, Some, None, refl, sym, ap, ◌∙◌, append_assoc, if◌then◌else◌}
 use Rattle.redl_reading.specs.Steps.{or_else}
 use Rattle.redl_tree.specs.Model.Nodes.{Tag, Nodes, no_nodes, bytes, element, Item, bytes_item, element_item, idle_item, in_front, ◌⊕◌}
 use Rattle.redl_tree.specs.Model.IdleTexts.{idle_nodes}
@@ -30,12 +30,6 @@ pub held_read : (place inner : BarePlace) (marks inside : Marks) (tag : Tag) (ki
     → held_units place marks tag kids ≡ units_in inner inside read
 held_read place inner marks inside tag kids read e f g =
     ap (λ p. units_in p (marks_inside marks tag kids) kids) (sym e) ∙ ap (λ m. units_in inner m kids) (sym f) ∙ ap (units_in inner inside) (sym g)
-
--- and nothing after them
-pub held_alone : (place inner : BarePlace) (marks inside : Marks) (tag : Tag) (kids read : Nodes) → inner ≡ place_inside place tag → inside ≡ marks_inside marks tag kids → read ≡ kids
-    → held_units place marks tag kids ≡ units_in inner inside read ++ []
-held_alone place inner marks inside tag kids read e f g =
-    held_read place inner marks inside tag kids read e f g ∙ sym (append-nil (units_in inner inside read))
 
 -- marks are told by their list
 pub marks_by_items : (m k : code_marks.Marks) → m.list.items ≡ k.list.items → m ≡ k

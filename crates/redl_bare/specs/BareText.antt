@@ -11,7 +11,10 @@ use Rattle.redl_tree.specs.declared.kinds.Prop.{Prop}
 use Rattle.redl_tree.specs.declared.kinds.Prop.TheVariants as props
 use Rattle.redl_shown.specs.Shown.{shown}
 use Rattle.redl_bare.specs.Marks.{Stamp, Mark, Marks, same_marks}
-use Rattle.redl_bare.specs.Units.{Object, picture, footnote_reference, endnote_reference, symbol, place_tab, soft_hyphen, field_begin, field_separate, field_end, Text, byte, object, BareUnit, text, thing, member, story, package_units}
+use Rattle.redl_bare.specs.declared.object.Object.{Object}
+use Rattle.redl_bare.specs.declared.object.Object.TheVariants.{Picture, FootnoteReference, EndnoteReference, Symbol, PlaceTab, SoftHyphen, FieldBegin, FieldSeparate, FieldEnd}
+use Rattle.redl_bare.specs.Units.{Text, byte, object, BareUnit, text, thing, member, story}
+use Rattle.redl_bare.specs.Package.{package_units}
 use Rattle.redl_marks.specs.declared.sign.Sign.{Sign}
 use Rattle.redl_marks.specs.declared.sign.Sign.TheVariants.{Inserted, Deleted, MovedTo, MovedFrom, Formatted}
 use Rattle.redl_bare.specs.declared.units.Thing.{Thing}
@@ -34,15 +37,15 @@ abbrev pub escaped : List ℕ → List ℕ
 escaped bytes = flat_map byte_escaped bytes
 
 abbrev pub object_name : Object → List ℕ
-object_name picture = codes "picture"
-object_name footnote_reference = codes "footnote"
-object_name endnote_reference = codes "endnote"
-object_name symbol = codes "symbol"
-object_name place_tab = codes "ptab"
-object_name soft_hyphen = codes "softHyphen"
-object_name field_begin = codes "field begin"
-object_name field_separate = codes "field separate"
-object_name field_end = codes "field end"
+object_name Picture = codes "picture"
+object_name FootnoteReference = codes "footnote"
+object_name EndnoteReference = codes "endnote"
+object_name Symbol = codes "symbol"
+object_name PlaceTab = codes "ptab"
+object_name SoftHyphen = codes "softHyphen"
+object_name FieldBegin = codes "field begin"
+object_name FieldSeparate = codes "field separate"
+object_name FieldEnd = codes "field end"
 
 -- what is written of a text; an object has a backslash and its name in square brackets
 abbrev pub text_body : Text → List ℕ
@@ -122,6 +125,10 @@ goes_on (Some line) marks = same_marks line marks
 abbrev pub text_begin : Option Marks → Marks → List ℕ
 text_begin line marks = if goes_on line marks then [] else closing line ++ (marks_text marks ++ codes "|")
 
+-- the line that is open once a text with these marks has begun
+abbrev pub begun : Option Marks → Marks → Option Marks
+begun line marks = if goes_on line marks then line else Some marks
+
 -- what is written of a unit
 abbrev pub unit_text : Option Marks → BareUnit → List ℕ
 unit_text line (text marks t) = text_begin line marks ++ text_body t
@@ -132,7 +139,7 @@ unit_text line (story s) = closing line ++ (codes "= " ++ (story_name s ++ (10 �
 
 -- the line that is open after a unit
 abbrev pub line_after : Option Marks → BareUnit → Option Marks
-line_after line (text marks t) = if goes_on line marks then line else Some marks
+line_after line (text marks t) = begun line marks
 line_after line _ = None
 
 abbrev pub lines : Option Marks → List BareUnit → List ℕ

@@ -1,5 +1,6 @@
 pub mod Marks
-pub mod Fields
 pub mod Units
+pub mod Fields
+pub mod Package
 pub mod BareText
 pub mod Inside

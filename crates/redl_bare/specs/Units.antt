@@ -1,7 +1,6 @@
 -- The units of a document (our own rule; ECMA-376 Part 1, 17.3 and 17.4 for the elements): what a reader can see and decide, in order,
 -- each with its marks. Nothing in properties is a unit, but a member of a revision there has a line of its own where it is.
 use Rattle.std.specs.Prelude.{ℕ, List, [], ◌∷◌, ◌++◌, map, Bool, true, false, ◌&&◌, ◌||◌, codes, bytes_eq, is_some, if◌then◌else◌}
-use Rattle.std.specs.List.{flat_map}
 use Rattle.redl_tree.specs.Model.Nodes.{Tag, Nodes, no_nodes, bytes, element}
 use Rattle.redl_tree.specs.Model.View.{Element}
 use Rattle.redl_tree.specs.Roles.Names.{is, is_any}
@@ -10,13 +9,13 @@ use Rattle.redl_tree.specs.declared.kinds.Space.{Space}
 use Rattle.redl_tree.specs.declared.kinds.Space.TheVariants as space
 use Rattle.redl_tree.specs.declared.kinds.Kind.{Kind}
 use Rattle.redl_tree.specs.declared.kinds.Kind.TheVariants.{Mark, Row as RowMember, Cell as CellMember, Change}
-use Rattle.redl_order.specs.Order.{ordered}
 use Rattle.redl_shown.specs.Shown.{shown}
 use Rattle.redl_stamp.specs.Attribute.{attribute_value}
 use Rattle.redl_bare.specs.Marks.{Stamp, Marks, stamp_in, no_marks, marks_inside, value_in}
-use Rattle.redl_bare.specs.Fields.{is_counted}
+use Rattle.redl_bare.specs.declared.object.Object.{Object}
+use Rattle.redl_bare.specs.declared.object.Object.TheVariants.{Picture, FootnoteReference, EndnoteReference, Symbol, PlaceTab, SoftHyphen, FieldBegin, FieldSeparate, FieldEnd}
 use Rattle.redl_bare.specs.declared.place.BarePlace.{BarePlace}
-use Rattle.redl_bare.specs.declared.place.BarePlace.TheVariants.{Open, InText, InRun, InField, InCounted, Quiet, Silent}
+use Rattle.redl_bare.specs.declared.place.BarePlace.TheVariants.{Open, InText, InRun, InField, Quiet, Silent}
 use Rattle.redl_bare.specs.declared.units.Thing.{Thing}
 use Rattle.redl_bare.specs.declared.units.Thing.TheVariants.{Paragraph, Row, Cell}
 use Rattle.redl_bare.specs.declared.units.Story.{Story}
@@ -24,20 +23,7 @@ use Rattle.redl_bare.specs.declared.units.Story.TheVariants.{Document, Header, F
 
 -- ---- units
 
--- what is seen in a line and is no character: a picture, the reference of a note, a symbol of a font, a tab to a place, a hyphen that
--- shows where a line may break, and the three parts of a field
-pub data Object : Type 0 where
-  picture : Object
-  footnote_reference : Object
-  endnote_reference : Object
-  symbol : Object
-  place_tab : Object
-  soft_hyphen : Object
-  field_begin : Object
-  field_separate : Object
-  field_end : Object
-
--- what is in a line: the characters by their bytes, and objects
+-- what is in a line: the characters by their bytes, and objects, among which are the parts of a field
 pub data Text : Type 0 where
   byte : ℕ → Text
   object : Object → Text
@@ -70,17 +56,13 @@ is_left_out tag =
 abbrev pub is_text : Tag → Bool
 is_text tag = is_any ("t" ∷ "delText" ∷ "instrText" ∷ "delInstrText" ∷ []) tag
 
--- the place of the result of a field with this code
-abbrev pub field_inside : List ℕ → BarePlace
-field_inside code = if is_counted code then InCounted else InField
-
 abbrev pub open_inside : Tag → BarePlace
 open_inside tag =
     if is_left_out tag then Silent
     else if is_quiet tag then Quiet
     else if is_text tag then InText
     else if is "r" tag then InRun
-    else if is "fldSimple" tag then field_inside (value_in tag.tail (codes "instr"))
+    else if is "fldSimple" tag then InField
     else Open
 
 -- the place of what an element holds; the change of a run's properties is a mark of what is in the run, so these are silent
@@ -90,7 +72,6 @@ place_inside Quiet tag = Quiet
 place_inside InRun tag = if is "rPr" tag then Silent else open_inside tag
 place_inside InText tag = open_inside tag
 place_inside InField tag = open_inside tag
-place_inside InCounted tag = Silent
 place_inside Open tag = open_inside tag
 
 -- ---- what an element is
@@ -98,24 +79,24 @@ place_inside Open tag = open_inside tag
 -- the characters and the object that an element shows in its line
 abbrev pub field_part : List ℕ → List Text
 field_part kind =
-    if bytes_eq kind (codes "begin") then object field_begin ∷ []
-    else if bytes_eq kind (codes "separate") then object field_separate ∷ []
-    else if bytes_eq kind (codes "end") then object field_end ∷ []
+    if bytes_eq kind (codes "begin") then object FieldBegin ∷ []
+    else if bytes_eq kind (codes "separate") then object FieldSeparate ∷ []
+    else if bytes_eq kind (codes "end") then object FieldEnd ∷ []
     else []
 
 abbrev pub sign_texts : Tag → List Text
 sign_texts tag =
-    if is "sym" tag then object symbol ∷ []
-    else if is "ptab" tag then object place_tab ∷ []
-    else if is "softHyphen" tag then object soft_hyphen ∷ []
+    if is "sym" tag then object Symbol ∷ []
+    else if is "ptab" tag then object PlaceTab ∷ []
+    else if is "softHyphen" tag then object SoftHyphen ∷ []
     else if is "fldChar" tag then field_part (value_in tag.tail (codes "fldCharType"))
     else []
 
 abbrev pub object_texts : Tag → List Text
 object_texts tag =
-    if is_any ("drawing" ∷ "pict" ∷ "object" ∷ []) tag then object picture ∷ []
-    else if is "footnoteReference" tag then object footnote_reference ∷ []
-    else if is "endnoteReference" tag then object endnote_reference ∷ []
+    if is_any ("drawing" ∷ "pict" ∷ "object" ∷ []) tag then object Picture ∷ []
+    else if is "footnoteReference" tag then object FootnoteReference ∷ []
+    else if is "endnoteReference" tag then object EndnoteReference ∷ []
     else sign_texts tag
 
 abbrev pub short_texts : Tag → List Text
@@ -127,15 +108,14 @@ short_texts tag =
 
 -- a field with this code that is one element reads as one in several: writers turn the one form into the other
 abbrev pub field_texts : List ℕ → List Text
-field_texts code = object field_begin ∷ (map byte (shown code) ++ (object field_separate ∷ []))
+field_texts code = object FieldBegin ∷ (map byte (shown code) ++ (object FieldSeparate ∷ []))
 
 abbrev pub start_texts : Tag → List Text
 start_texts tag = if is "fldSimple" tag then field_texts (value_in tag.tail (codes "instr")) else short_texts tag
 
 -- what is shown after what is at a place: the end of a field
 abbrev pub end_texts : BarePlace → List Text
-end_texts InField = object field_end ∷ []
-end_texts InCounted = object field_end ∷ []
+end_texts InField = object FieldEnd ∷ []
 end_texts _ = []
 
 -- the lines that an element begins
@@ -170,13 +150,11 @@ start_units Quiet marks tag = member_units tag
 start_units InRun marks tag = open_units marks tag
 start_units InText marks tag = open_units marks tag
 start_units InField marks tag = open_units marks tag
-start_units InCounted marks tag = []
 start_units Open marks tag = open_units marks tag
 
 abbrev pub is_open_place : BarePlace → Bool
 is_open_place Silent = false
 is_open_place Quiet = false
-is_open_place InCounted = false
 is_open_place _ = true
 
 -- and after them: a paragraph has its end, and so has a field
@@ -213,7 +191,3 @@ root_units tag =
 -- the units of a story or a note: the line with which it begins, and the units of its root
 abbrev pub story_units : Element → List BareUnit
 story_units root = root_units root.tag ++ units_in Open no_marks (element root.tag root.kids no_nodes)
-
--- the units of a package, story by story, in the order in which a reader meets them
-abbrev pub package_units : Nodes → List BareUnit
-package_units nodes = flat_map story_units (ordered nodes)

@@ -1,12 +1,12 @@
 //! Texts from a document, as they are written in a line.
 
-ghost use Rattle.std.specs.Prelude.{◌≡◌, not, IfOk};
+ghost use Rattle.std.specs.Prelude.{◌≡◌, IfOk};
 ghost use Rattle.redl_io.specs.Sink.{Puts};
 ghost use Rattle.redl_reading.specs.Lists.{front, after};
 ghost use Rattle.redl_shown.specs.Pieces.{piece_text};
 ghost use Rattle.redl_shown.specs.Shown.{shown};
 ghost use Rattle.redl_bare.specs.BareText.{byte_escaped, escaped};
-ghost use Rattle.redl_bare.specs.Inside.Escapes.{is_plain, is_empty};
+ghost use Rattle.redl_bare.specs.Inside.Escapes.{is_plain};
 
 use redl_io::{Failed, Sink, put_piece};
 use redl_reading::run;
@@ -76,35 +76,5 @@ fn put_step<K: Sink>(piece: ShownPiece<'_>, out: &mut K) -> Result<(), Failed>
             character.encode_utf8(&mut [0; 4]).as_bytes(),
             out,
         ),
-    }
-}
-
-/// Whether bytes of a document show something.
-pub(crate) fn is_shown(bytes: &[u8]) -> bool
-    ensures { result ≡ not (is_empty (shown bytes.now)) }
-{
-    let mut here = start();
-    let mut left = bytes;
-    while let Some(step) = next_shown(here, left) {
-        if shows(step.piece) {
-            return true;
-        }
-        here = step.here;
-        left = step.rest;
-    }
-    false
-}
-
-// Whether a step shows something.
-fn shows(piece: ShownPiece<'_>) -> bool
-    ensures { result ≡ not (is_empty (piece_text piece.entry)) }
-{
-    match piece {
-        ShownPiece::Nothing => false,
-        ShownPiece::Bytes(bytes) => !bytes.is_empty(),
-        ShownPiece::Character(character) => !character
-            .encode_utf8(&mut [0; 4])
-            .as_bytes()
-            .is_empty(),
     }
 }

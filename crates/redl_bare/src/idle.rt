@@ -1,57 +1,44 @@
 //! The texts of idle elements that a list keeps as text.
 
-ghost use Rattle.std.specs.Prelude.{◌≡◌, not};
-ghost use Rattle.redl_io.specs.Sink.{Puts};
+ghost use Rattle.std.specs.Prelude.{◌≡◌};
 ghost use Rattle.redl_tree.specs.Model.IdleTexts.{idle_nodes};
-ghost use Rattle.redl_idle.specs.Shows.{shows};
-ghost use Rattle.redl_bare.specs.Units.{start_texts, byte_texts, units_in};
-ghost use Rattle.redl_bare.specs.Inside.Escapes.{is_empty};
-ghost use Rattle.redl_bare.specs.Inside.Idle.{idle_rule, tag_with, texts_at};
-ghost use Rattle.redl_bare.specs.Inside.Looks.{ShowsSo};
-ghost use Rattle.redl_bare.specs.BareText.{texts_body};
-ghost use Rattle.redl_bare.specs.Inside.Views.{marks_view, line_view};
+ghost use Rattle.redl_bare.specs.Units.{start_texts, end_texts, byte_texts, in_marks, units_in};
+ghost use Rattle.redl_bare.specs.Inside.Idle.{tag_with, texts_at, numbers, numbered};
 ghost use Rattle.redl_bare.specs.Inside.Puts.{PutsUnits};
+ghost use Rattle.redl_bare.specs.Inside.Views.{marks_view};
 
-use crate::escape::{is_shown, put_shown};
-use crate::fields::put_field_text;
-use crate::line::{Line, begin};
 use crate::place::BarePlace;
-use crate::starts::{end_body, start_body};
+use crate::starts::{end_of, start_of};
+use crate::texts::{put_field, put_short, put_shown_texts};
 use crate::values::value_in;
+use crate::writer::Writer;
 use redl_idle::{Shows, show};
-use redl_io::{Failed, Sink, put_piece};
-use redl_marks::Marks;
+use redl_io::{Failed, Sink};
 use redl_tree::Plain;
 
-/// Puts the texts of idle elements with these marks. It takes no memory.
+/// Puts the texts of idle elements. It takes no memory.
 pub(crate) fn put_idle<'a, K: Sink>(
     plain: &Plain<'_>,
     place: BarePlace,
-    marks: &Marks<'a>,
-    line: &mut Line<'a>,
-    out: &mut K,
+    writer: &mut Writer<'a, K>,
 ) -> Result<(), Failed>
-    ensures { PutsUnits K.told K.faults K.settled K.lenders out.old out.new (line_view line.old) (line_view line.new) (units_in place (marks_view marks.now) (idle_nodes plain.now)) result }
+    ensures { PutsUnits K.told K.faults K.settled K.lenders writer.old writer.new (units_in place (marks_view writer.old.marks) (idle_nodes plain.now)) result }
 {
-    if !shows_something(plain, place) {
-        return Ok(());
-    }
-    begin(marks, line, out)?;
-    show(plain, &place, out)
+    show(plain, &place, writer)
 }
 
-impl<K: Sink> Shows<K> for BarePlace {
-    ghost use Rattle.redl_idle.specs.Takings.{by_puts};
+impl<'a, K: Sink> Shows<Writer<'a, K>> for BarePlace {
     ghost use Rattle.redl_bare.specs.Inside.Idle.{idle_rule};
+    ghost use Rattle.redl_bare.specs.Inside.Taking.{by_units};
 
     type Error = Failed;
 
     ghost rule = { idle_rule };
 
-    ghost taking = { by_puts K.told K.faults K.settled K.lenders };
+    ghost taking = { by_units K.told K.faults K.settled K.lenders };
 
-    fn put_bytes(&self, bytes: &[u8], out: &mut K) -> Result<(), Failed> {
-        put_idle_bytes(*self, bytes, out)
+    fn put_bytes(&self, bytes: &[u8], writer: &mut Writer<'a, K>) -> Result<(), Failed> {
+        put_idle_bytes(*self, bytes, writer)
     }
 
     fn enter(
@@ -59,129 +46,59 @@ impl<K: Sink> Shows<K> for BarePlace {
         local: &[u8],
         tail: &[u8],
         _ahead: &[u8],
-        out: &mut K,
+        writer: &mut Writer<'a, K>,
     ) -> Result<BarePlace, Failed> {
-        put_idle_start(*self, local, tail, out)?;
-        Ok(self.inside_idle(local, tail))
+        put_idle_start(*self, local, tail, writer)?;
+        Ok(self.inside_idle(local))
     }
 
-    fn leave(&self, out: &mut K) -> Result<(), Failed> {
-        put_piece(end_body(*self), out)
+    fn leave(&self, writer: &mut Writer<'a, K>) -> Result<(), Failed> {
+        put_idle_end(*self, writer)
     }
 }
 
-fn put_idle_bytes<K: Sink>(place: BarePlace, bytes: &[u8], out: &mut K) -> Result<(), Failed>
-    ensures { Puts K.told K.faults K.settled K.lenders out.old out.new (texts_body (byte_texts place bytes.now)) result }
+fn put_idle_bytes<'a, K: Sink>(
+    place: BarePlace,
+    bytes: &[u8],
+    writer: &mut Writer<'a, K>,
+) -> Result<(), Failed>
+    ensures { PutsUnits K.told K.faults K.settled K.lenders writer.old writer.new (in_marks (marks_view writer.old.marks) (numbered (numbers (byte_texts place bytes.now)))) result }
 {
     match place {
-        BarePlace::InText => put_shown(bytes, out),
+        BarePlace::InText => put_shown_texts(bytes, writer),
         _ => Ok(()),
     }
 }
 
-fn put_idle_start<K: Sink>(
+fn put_idle_start<'a, K: Sink>(
     place: BarePlace,
     local: &[u8],
     tail: &[u8],
-    out: &mut K,
+    writer: &mut Writer<'a, K>,
 ) -> Result<(), Failed>
-    ensures { Puts K.told K.faults K.settled K.lenders out.old out.new (texts_body (texts_at place (tag_with local.now tail.now))) result }
+    ensures { PutsUnits K.told K.faults K.settled K.lenders writer.old writer.new (in_marks (marks_view writer.old.marks) (numbered (numbers (texts_at place (tag_with local.now tail.now))))) result }
 {
     if place.is_open() {
-        return put_open_idle(local, tail, out);
+        return put_open_idle(local, tail, writer);
     }
     Ok(())
 }
 
-fn put_open_idle<K: Sink>(local: &[u8], tail: &[u8], out: &mut K) -> Result<(), Failed>
-    ensures { Puts K.told K.faults K.settled K.lenders out.old out.new (texts_body (start_texts (tag_with local.now tail.now))) result }
+fn put_open_idle<'a, K: Sink>(
+    local: &[u8],
+    tail: &[u8],
+    writer: &mut Writer<'a, K>,
+) -> Result<(), Failed>
+    ensures { PutsUnits K.told K.faults K.settled K.lenders writer.old writer.new (in_marks (marks_view writer.old.marks) (start_texts (tag_with local.now tail.now))) result }
 {
     if local == b"fldSimple".as_slice() {
-        return put_field_text(value_in(tail, b"instr"), out);
+        return put_field(value_in(tail, b"instr"), writer);
     }
-    put_piece(start_body(local, tail), out)
+    put_short(start_of(local, tail), writer)
 }
 
-// Whether idle elements here show something. It reads no further than to the first text.
-fn shows_something(plain: &Plain<'_>, place: BarePlace) -> bool
-    ensures { result ≡ not (is_empty (shows idle_rule place (idle_nodes plain.now))) }
+fn put_idle_end<'a, K: Sink>(place: BarePlace, writer: &mut Writer<'a, K>) -> Result<(), Failed>
+    ensures { PutsUnits K.told K.faults K.settled K.lenders writer.old writer.new (in_marks (marks_view writer.old.marks) (numbered (numbers (end_texts place)))) result }
 {
-    match show(plain, &place, &mut Nothing) {
-        Ok(()) => false,
-        Err(Something) => true,
-    }
-}
-
-// What takes no text: the first one ends the walk.
-#[derive(Clone, Copy)]
-struct Nothing;
-
-// A text was shown.
-#[derive(Clone, Copy)]
-struct Something;
-
-impl Shows<Nothing> for BarePlace {
-    ghost use Rattle.redl_bare.specs.Inside.Idle.{idle_rule};
-    ghost use Rattle.redl_bare.specs.Inside.Looks.{takes_nothing};
-
-    type Error = Something;
-
-    ghost rule = { idle_rule };
-
-    ghost taking = { takes_nothing };
-
-    fn put_bytes(&self, bytes: &[u8], _out: &mut Nothing) -> Result<(), Something> {
-        look_at_bytes(*self, bytes)
-    }
-
-    fn enter(
-        &self,
-        local: &[u8],
-        tail: &[u8],
-        _ahead: &[u8],
-        _out: &mut Nothing,
-    ) -> Result<BarePlace, Something> {
-        look_at_start(*self, local, tail)?;
-        Ok(self.inside_idle(local, tail))
-    }
-
-    fn leave(&self, _out: &mut Nothing) -> Result<(), Something> {
-        look_at(end_body(*self))
-    }
-}
-
-fn look_at_bytes(place: BarePlace, bytes: &[u8]) -> Result<(), Something>
-    ensures { ShowsSo (texts_body (byte_texts place bytes.now)) result }
-{
-    match place {
-        BarePlace::InText if is_shown(bytes) => Err(Something),
-        _ => Ok(()),
-    }
-}
-
-fn look_at_start(place: BarePlace, local: &[u8], tail: &[u8]) -> Result<(), Something>
-    ensures { ShowsSo (texts_body (texts_at place (tag_with local.now tail.now))) result }
-{
-    if place.is_open() {
-        return look_at_open(local, tail);
-    }
-    Ok(())
-}
-
-fn look_at_open(local: &[u8], tail: &[u8]) -> Result<(), Something>
-    ensures { ShowsSo (texts_body (start_texts (tag_with local.now tail.now))) result }
-{
-    if local == b"fldSimple".as_slice() {
-        return Err(Something);
-    }
-    look_at(start_body(local, tail))
-}
-
-fn look_at(body: &[u8]) -> Result<(), Something>
-    ensures { ShowsSo body.now result }
-{
-    if body.is_empty() {
-        return Ok(());
-    }
-    Err(Something)
+    put_short(end_of(place), writer)
 }

@@ -1,14 +1,16 @@
 //! Lines: texts that follow one another with equal marks are one.
 
-ghost use Rattle.std.specs.Prelude.{◌≡◌, ◌∷◌, ◌++◌, [], List, Some, None, OnOk, codes, if◌then◌else◌};
+ghost use Rattle.std.specs.Prelude.{◌≡◌, ◌∷◌, ◌++◌, [], Some, None, OnOk, codes};
 ghost use Rattle.redl_io.specs.Sink.{Puts};
-ghost use Rattle.redl_bare.specs.Units.{Text, thing, story, member, in_marks};
-ghost use Rattle.redl_bare.specs.BareText.{closing, goes_on, text_begin, texts_body, marks_text, member_name, stamp_text};
+ghost use Rattle.redl_bare.specs.Units.{thing, story, member};
+ghost use Rattle.redl_bare.specs.BareText.{closing, goes_on, text_begin, begun, marks_text, member_name, stamp_text};
 ghost use Rattle.redl_bare.specs.Inside.Views.{stamp_view, marks_view, line_view};
 ghost use Rattle.redl_bare.specs.Inside.Puts.{PutsUnits};
 
+use crate::fields::Fields;
 use crate::stamp_text::{put_marks, put_stamp};
 use crate::units::{Story, Thing, member_name};
+use crate::writer::Writer;
 use redl_io::{Failed, Sink, put_piece, put_pieces};
 use redl_marks::{Marks, Stamp};
 use redl_tree::Kind;
@@ -51,107 +53,76 @@ impl<'a> Line<'a> {
 }
 
 /// Puts the end of the line of texts that is open, if one is.
-pub(crate) fn close<K: Sink>(line: &Line<'_>, out: &mut K) -> Result<(), Failed>
-    ensures { Puts K.told K.faults K.settled K.lenders out.old out.new (closing (line_view line.now)) result }
+pub(crate) fn close<K: Sink>(line: &Line<'_>, sink: &mut K) -> Result<(), Failed>
+    ensures { Puts K.told K.faults K.settled K.lenders sink.old sink.new (closing (line_view line.now)) result }
 {
     if line.is_open {
-        return put_piece(b"\n", out);
+        return put_piece(b"\n", sink);
     }
     Ok(())
 }
 
-/// Puts what comes before a text with these marks, and opens its line.
-pub(crate) fn begin<'a, K: Sink>(
-    marks: &Marks<'a>,
-    line: &mut Line<'a>,
-    out: &mut K,
-) -> Result<(), Failed>
-    ensures puts { Puts K.told K.faults K.settled K.lenders out.old out.new (text_begin (line_view line.old) (marks_view marks.now)) result }
-    ensures after { OnOk result (line_view line.new ≡ (if goes_on (line_view line.old) (marks_view marks.now) then line_view line.old else Some (marks_view marks.now))) }
+/// Puts what comes before a text, and opens its line.
+pub(crate) fn begin<'a, K: Sink>(writer: &mut Writer<'a, K>) -> Result<(), Failed>
+    ensures puts { Puts K.told K.faults K.settled K.lenders writer.old.sink writer.new.sink (text_begin (line_view writer.old.line) (marks_view writer.old.marks)) result }
+    ensures after { OnOk result (line_view writer.new.line ≡ begun (line_view writer.old.line) (marks_view writer.old.marks)) }
+    ensures marks { writer.new.marks ≡ writer.old.marks }
+    ensures fields { writer.new.fields ≡ writer.old.fields }
 {
-    if line.goes_on(marks) {
+    if writer.line.goes_on(&writer.marks) {
         return Ok(());
     }
-    put_begin(marks, line, out)?;
-    line.start(marks);
+    put_begin(&writer.marks, &writer.line, &mut writer.sink)?;
+    writer.line.start(&writer.marks);
     Ok(())
 }
 
-fn put_begin<K: Sink>(marks: &Marks<'_>, line: &Line<'_>, out: &mut K) -> Result<(), Failed>
-    ensures { Puts K.told K.faults K.settled K.lenders out.old out.new (closing (line_view line.now) ++ (marks_text (marks_view marks.now) ++ codes "|")) result }
+fn put_begin<K: Sink>(marks: &Marks<'_>, line: &Line<'_>, sink: &mut K) -> Result<(), Failed>
+    ensures { Puts K.told K.faults K.settled K.lenders sink.old sink.new (closing (line_view line.now) ++ (marks_text (marks_view marks.now) ++ codes "|")) result }
 {
-    close(line, out)?;
-    put_marks(marks, out)?;
-    put_piece(b"|", out)
+    close(line, sink)?;
+    put_marks(marks, sink)?;
+    put_piece(b"|", sink)
 }
 
-/// Puts a text with these marks that is written so. Nothing begins no line.
-pub(crate) fn put_texts<'a, K: Sink>(
-    body: &[u8],
-    marks: &Marks<'a>,
-    line: &mut Line<'a>,
-    out: &mut K,
-) -> Result<(), Failed>
-    ensures { (texts : List Text) → body.now ≡ texts_body texts
-        → PutsUnits K.told K.faults K.settled K.lenders out.old out.new (line_view line.old) (line_view line.new) (in_marks (marks_view marks.now) texts) result }
+/// Puts the line of something.
+pub(crate) fn put_thing<'a, K: Sink>(what: Thing, writer: &mut Writer<'a, K>) -> Result<(), Failed>
+    ensures { PutsUnits K.told K.faults K.settled K.lenders writer.old writer.new (thing (marks_view writer.old.marks) what ∷ []) result }
 {
-    if body.is_empty() {
-        return Ok(());
-    }
-    begin(marks, line, out)?;
-    put_piece(body, out)
+    close(&writer.line, &mut writer.sink)?;
+    put_marks(&writer.marks, &mut writer.sink)?;
+    writer.line.is_open = false;
+    put_pieces(&[b"*".as_slice(), what.name(), b"\n"], &mut writer.sink)
 }
 
-/// Puts the line of something with these marks.
-pub(crate) fn put_thing<K: Sink>(
-    what: Thing,
-    marks: &Marks<'_>,
-    line: &mut Line<'_>,
-    out: &mut K,
-) -> Result<(), Failed>
-    ensures { PutsUnits K.told K.faults K.settled K.lenders out.old out.new (line_view line.old) (line_view line.new)
-        (thing (marks_view marks.now) what ∷ []) result }
+/// Puts the line with which a story begins. No field goes on into it.
+pub(crate) fn put_story<'a, K: Sink>(which: Story, writer: &mut Writer<'a, K>) -> Result<(), Failed>
+    ensures { PutsUnits K.told K.faults K.settled K.lenders writer.old writer.new (story which ∷ []) result }
 {
-    close(line, out)?;
-    put_marks(marks, out)?;
-    line.is_open = false;
-    put_pieces(&[b"*".as_slice(), what.name(), b"\n"], out)
-}
-
-/// Puts the line with which a story begins.
-pub(crate) fn put_story<K: Sink>(
-    which: Story,
-    line: &mut Line<'_>,
-    out: &mut K,
-) -> Result<(), Failed>
-    ensures { PutsUnits K.told K.faults K.settled K.lenders out.old out.new (line_view line.old) (line_view line.new)
-        (story which ∷ []) result }
-{
-    close(line, out)?;
-    line.is_open = false;
-    put_pieces(&[b"= ".as_slice(), which.name(), b"\n"], out)
+    close(&writer.line, &mut writer.sink)?;
+    writer.line.is_open = false;
+    writer.fields = Fields::none();
+    put_pieces(&[b"= ".as_slice(), which.name(), b"\n"], &mut writer.sink)
 }
 
 /// Puts the line of a member of a revision of this kind.
-pub(crate) fn put_member<K: Sink>(
+pub(crate) fn put_member<'a, K: Sink>(
     kind: Kind,
     stamp: Stamp<'_>,
-    line: &mut Line<'_>,
-    out: &mut K,
+    writer: &mut Writer<'a, K>,
 ) -> Result<(), Failed>
-    ensures { PutsUnits K.told K.faults K.settled K.lenders out.old out.new (line_view line.old) (line_view line.new)
-        (member kind (stamp_view stamp.entry) ∷ []) result }
+    ensures { PutsUnits K.told K.faults K.settled K.lenders writer.old writer.new (member kind (stamp_view stamp.entry) ∷ []) result }
 {
-    close(line, out)?;
-    line.is_open = false;
-    put_own_line(kind, stamp, out)
+    close(&writer.line, &mut writer.sink)?;
+    writer.line.is_open = false;
+    put_own_line(kind, stamp, &mut writer.sink)
 }
 
-fn put_own_line<K: Sink>(kind: Kind, stamp: Stamp<'_>, out: &mut K) -> Result<(), Failed>
-    ensures { Puts K.told K.faults K.settled K.lenders out.old out.new
+fn put_own_line<K: Sink>(kind: Kind, stamp: Stamp<'_>, sink: &mut K) -> Result<(), Failed>
+    ensures { Puts K.told K.faults K.settled K.lenders sink.old sink.new
         (codes "+" ++ (member_name kind ++ (9 ∷ (stamp_text (stamp_view stamp.entry) ++ (10 ∷ []))))) result }
 {
-    put_pieces(&[b"+".as_slice(), member_name(kind), b"\t"], out)?;
-    put_stamp(stamp, out)?;
-    put_piece(b"\n", out)
+    put_pieces(&[b"+".as_slice(), member_name(kind), b"\t"], sink)?;
+    put_stamp(stamp, sink)?;
+    put_piece(b"\n", sink)
 }

@@ -6,61 +6,67 @@ ghost use Rattle.redl_io.specs.Sink.{Puts};
 ghost use Rattle.redl_tree.specs.Model.View.{tag_of};
 ghost use Rattle.redl_opc.specs.Elements.{element_of};
 ghost use Rattle.redl_order.specs.Borrowed.{all_borrowed};
+ghost use Rattle.redl_bare.specs.Marks.{no_marks};
 ghost use Rattle.redl_bare.specs.Units.{root_units, story_units};
+ghost use Rattle.redl_bare.specs.Package.{stories_units};
 ghost use Rattle.redl_bare.specs.BareText.{units_text};
-ghost use Rattle.redl_bare.specs.Inside.Views.{line_view};
 ghost use Rattle.redl_bare.specs.Inside.Puts.{PutsUnits};
+ghost use Rattle.redl_bare.specs.Inside.Views.{marks_view};
 
-use crate::line::{Line, close, put_story};
+use crate::line::{close, put_story};
 use crate::place::BarePlace;
 use crate::units::Story;
 use crate::walk::put_elem;
+use crate::writer::Writer;
 use redl_io::{Failed, Sink};
-use redl_marks::Marks;
 use redl_tree::{Elem, Word, is_word};
 
 /// Puts the bare text of these stories and notes: their units with their marks, and nothing of how their file is made.
 ///
 /// It makes no tree and takes no memory. The members of the stories have the kinds that an index gives them. `Failed` comes only
 /// where the sink failed, and then it has only a prefix of the text.
-pub fn put_bare<K: Sink>(stories: Vec<&Elem>, out: &mut K) -> Result<(), Failed>
-    ensures { Puts K.told K.faults K.settled K.lenders out.old out.new (units_text (flat_map story_units (all_borrowed stories.entry.items))) result }
+pub fn put_bare<'a, K: Sink>(
+    stories: Vec<&Elem<'a>>,
+    writer: &mut Writer<'a, K>,
+) -> Result<(), Failed>
+    ensures { Puts K.told K.faults K.settled K.lenders writer.old.sink writer.new.sink (units_text (stories_units (all_borrowed stories.entry.items))) result }
 {
-    let mut line = Line::none();
-    put_stories(stories, &mut line, out)?;
-    close(&line, out)
+    writer.restart();
+    put_stories(stories, writer)?;
+    close(&writer.line, &mut writer.sink)
 }
 
 fn put_stories<'a, K: Sink>(
     stories: Vec<&Elem<'a>>,
-    line: &mut Line<'a>,
-    out: &mut K,
+    writer: &mut Writer<'a, K>,
 ) -> Result<(), Failed>
-    ensures { PutsUnits K.told K.faults K.settled K.lenders out.old out.new (line_view line.old) (line_view line.new) (flat_map story_units (all_borrowed stories.entry.items)) result }
+    requires { marks_view writer.old.marks ≡ no_marks }
+    ensures { PutsUnits K.told K.faults K.settled K.lenders writer.old writer.new (flat_map story_units (all_borrowed stories.entry.items)) result }
 {
     for root in stories {
-        put_root(root, line, out)?;
+        put_root(root, writer)?;
     }
     Ok(())
 }
 
 // Puts a story with the line with which it begins.
-fn put_root<'a, K: Sink>(root: &Elem<'a>, line: &mut Line<'a>, out: &mut K) -> Result<(), Failed>
-    ensures { PutsUnits K.told K.faults K.settled K.lenders out.old out.new (line_view line.old) (line_view line.new) (story_units (element_of root.now)) result }
+fn put_root<'a, K: Sink>(root: &Elem<'a>, writer: &mut Writer<'a, K>) -> Result<(), Failed>
+    requires { marks_view writer.old.marks ≡ no_marks }
+    ensures { PutsUnits K.told K.faults K.settled K.lenders writer.old writer.new (story_units (element_of root.now)) result }
 {
-    put_begin(root, line, out)?;
-    put_elem(root, BarePlace::Open, &mut Marks::none(), line, out)
+    put_begin(root, writer)?;
+    put_elem(root, BarePlace::Open, writer)
 }
 
-fn put_begin<'a, K: Sink>(root: &Elem<'a>, line: &mut Line<'a>, out: &mut K) -> Result<(), Failed>
-    ensures { PutsUnits K.told K.faults K.settled K.lenders out.old out.new (line_view line.old) (line_view line.new) (root_units (tag_of root.now)) result }
+fn put_begin<'a, K: Sink>(root: &Elem<'a>, writer: &mut Writer<'a, K>) -> Result<(), Failed>
+    ensures { PutsUnits K.told K.faults K.settled K.lenders writer.old writer.new (root_units (tag_of root.now)) result }
 {
     if is_word(root, Word::Document) {
-        put_story(Story::Document, line, out)
+        put_story(Story::Document, writer)
     } else if is_word(root, Word::Hdr) {
-        put_story(Story::Header, line, out)
+        put_story(Story::Header, writer)
     } else if is_word(root, Word::Ftr) {
-        put_story(Story::Footer, line, out)
+        put_story(Story::Footer, writer)
     } else {
         Ok(())
     }

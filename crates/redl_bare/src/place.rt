@@ -3,11 +3,9 @@
 ghost use Rattle.std.specs.Prelude.{◌≡◌, ◌∷◌, []};
 ghost use Rattle.redl_tree.specs.Model.View.{tag_of};
 ghost use Rattle.redl_tree.specs.Roles.Names.{is_any};
-ghost use Rattle.redl_bare.specs.Units.{is_left_out, is_text, is_open_place, field_inside, open_inside, place_inside};
+ghost use Rattle.redl_bare.specs.Units.{is_left_out, is_text, is_open_place, open_inside, place_inside};
 ghost use Rattle.redl_bare.specs.Inside.Idle.{open_idle, idle_inside};
 
-use crate::fields::is_counted;
-use crate::values::value_in;
 use redl_stamp::has_attribute;
 use redl_tree::{Elem, Space, Word, is_named, is_quiet, is_word};
 
@@ -22,8 +20,6 @@ pub enum BarePlace {
     InRun,
     /// In a field that is one element.
     InField,
-    /// In one that counts pages or tells the time, where nothing is shown.
-    InCounted,
     /// In properties, where only members of revisions are shown.
     Quiet,
     /// Where nothing is shown.
@@ -36,7 +32,7 @@ impl BarePlace {
         ensures { result ≡ is_open_place self }
     {
         match self {
-            BarePlace::Silent | BarePlace::Quiet | BarePlace::InCounted => false,
+            BarePlace::Silent | BarePlace::Quiet => false,
             BarePlace::InRun | BarePlace::InText | BarePlace::InField | BarePlace::Open => true,
         }
     }
@@ -46,7 +42,7 @@ impl BarePlace {
         ensures { result ≡ place_inside self (tag_of elem.now) }
     {
         match self {
-            BarePlace::Silent | BarePlace::InCounted => BarePlace::Silent,
+            BarePlace::Silent => BarePlace::Silent,
             BarePlace::Quiet => BarePlace::Quiet,
             BarePlace::InRun if is_word(elem, Word::RPr) => BarePlace::Silent,
             BarePlace::InRun | BarePlace::InText | BarePlace::InField | BarePlace::Open =>
@@ -54,32 +50,22 @@ impl BarePlace {
         }
     }
 
-    /// The place of what an idle element with this local name and tail holds.
-    pub(crate) fn inside_idle(self, local: &[u8], tail: &[u8]) -> BarePlace
-        ensures { result ≡ idle_inside self local.now tail.now }
+    /// The place of what an idle element with this local name holds.
+    pub(crate) fn inside_idle(self, local: &[u8]) -> BarePlace
+        ensures { result ≡ idle_inside self local.now }
     {
         match self {
-            BarePlace::Silent | BarePlace::InCounted => BarePlace::Silent,
+            BarePlace::Silent => BarePlace::Silent,
             BarePlace::Quiet => BarePlace::Quiet,
             BarePlace::InRun if local == b"rPr".as_slice() => BarePlace::Silent,
             BarePlace::InRun | BarePlace::InText | BarePlace::InField | BarePlace::Open =>
-                open_inside_idle(local, tail),
+                open_inside_idle(local),
         }
     }
 }
 
-// The place of the result of a field with this code.
-fn field_inside(code: &[u8]) -> BarePlace
-    ensures { result ≡ field_inside code.now }
-{
-    if is_counted(code) {
-        return BarePlace::InCounted;
-    }
-    BarePlace::InField
-}
-
-fn open_inside_idle(local: &[u8], tail: &[u8]) -> BarePlace
-    ensures { result ≡ open_idle local.now tail.now }
+fn open_inside_idle(local: &[u8]) -> BarePlace
+    ensures { result ≡ open_idle local.now }
 {
     if local == b"rPr".as_slice() {
         BarePlace::Quiet
@@ -88,7 +74,7 @@ fn open_inside_idle(local: &[u8], tail: &[u8]) -> BarePlace
     } else if local == b"r".as_slice() {
         BarePlace::InRun
     } else if local == b"fldSimple".as_slice() {
-        field_inside(value_in(tail, b"instr"))
+        BarePlace::InField
     } else {
         BarePlace::Open
     }
@@ -106,7 +92,7 @@ fn open_inside(elem: &Elem) -> BarePlace
     } else if is_word(elem, Word::R) {
         BarePlace::InRun
     } else if is_named(elem, b"fldSimple") {
-        field_inside(value_in(elem.tail(), b"instr"))
+        BarePlace::InField
     } else {
         BarePlace::Open
     }

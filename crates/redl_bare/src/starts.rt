@@ -1,53 +1,65 @@
-//! What an element shows in its line at its start tag, and at its end.
+//! What elements show in their line at their tags.
 
 ghost use Rattle.std.specs.Prelude.{◌≡◌, ◌∷◌, []};
 ghost use Rattle.redl_tree.specs.Roles.Names.{is_any, of_w};
-ghost use Rattle.redl_bare.specs.BareText.{texts_body};
 ghost use Rattle.redl_bare.specs.Units.{short_texts, object_texts, sign_texts, field_part, end_texts};
 ghost use Rattle.redl_bare.specs.Inside.Idle.{tag_with};
+ghost use Rattle.redl_bare.specs.Inside.Texts.{short_of};
 
+use crate::object::Object;
 use crate::place::BarePlace;
 use crate::values::value_in;
 
-/// What an element of W with this local name and tail, which is no field, shows in its line, as it is written there.
-pub(crate) fn start_body(local: &[u8], tail: &[u8]) -> &'static [u8]
-    ensures { result.now ≡ texts_body (short_texts (tag_with local.now tail.now)) }
+/// What an element shows in its line.
+#[derive(Clone, Copy)]
+pub(crate) enum Short {
+    /// Nothing.
+    Nothing,
+    /// These characters.
+    Characters(&'static [u8]),
+    /// This object.
+    One(Object),
+}
+
+/// What an element of W with this local name and tail, which is no field, shows in its line.
+pub(crate) fn start_of(local: &[u8], tail: &[u8]) -> Short
+    ensures { short_of result ≡ short_texts (tag_with local.now tail.now) }
 {
     if local == b"tab".as_slice() {
-        return b"\\t";
+        return Short::Characters(b"\t");
     }
     if local == b"br".as_slice() || local == b"cr".as_slice() {
-        return b"\\n";
+        return Short::Characters(b"\n");
     }
     if local == b"noBreakHyphen".as_slice() {
-        return "\u{2011}".as_bytes();
+        return Short::Characters("\u{2011}".as_bytes());
     }
-    object_body(local, tail)
+    object_of(local, tail)
 }
 
-/// What is shown after what is at a place, as it is written.
-pub(crate) fn end_body(place: BarePlace) -> &'static [u8]
-    ensures { result.now ≡ texts_body (end_texts place) }
+/// What is shown after what is at a place.
+pub(crate) fn end_of(place: BarePlace) -> Short
+    ensures { short_of result ≡ end_texts place }
 {
     match place {
-        BarePlace::InField | BarePlace::InCounted => b"\\[field end]",
-        _ => b"",
+        BarePlace::InField => Short::One(Object::FieldEnd),
+        _ => Short::Nothing,
     }
 }
 
-fn object_body(local: &[u8], tail: &[u8]) -> &'static [u8]
-    ensures { result.now ≡ texts_body (object_texts (tag_with local.now tail.now)) }
+fn object_of(local: &[u8], tail: &[u8]) -> Short
+    ensures { short_of result ≡ object_texts (tag_with local.now tail.now) }
 {
     if is_picture(local) {
-        return b"\\[picture]";
+        return Short::One(Object::Picture);
     }
     if local == b"footnoteReference".as_slice() {
-        return b"\\[footnote]";
+        return Short::One(Object::FootnoteReference);
     }
     if local == b"endnoteReference".as_slice() {
-        return b"\\[endnote]";
+        return Short::One(Object::EndnoteReference);
     }
-    sign_body(local, tail)
+    sign_of(local, tail)
 }
 
 fn is_picture(local: &[u8]) -> bool
@@ -56,35 +68,35 @@ fn is_picture(local: &[u8]) -> bool
     local == b"drawing".as_slice() || local == b"pict".as_slice() || local == b"object".as_slice()
 }
 
-fn sign_body(local: &[u8], tail: &[u8]) -> &'static [u8]
-    ensures { result.now ≡ texts_body (sign_texts (tag_with local.now tail.now)) }
+fn sign_of(local: &[u8], tail: &[u8]) -> Short
+    ensures { short_of result ≡ sign_texts (tag_with local.now tail.now) }
 {
     if local == b"sym".as_slice() {
-        return b"\\[symbol]";
+        return Short::One(Object::Symbol);
     }
     if local == b"ptab".as_slice() {
-        return b"\\[ptab]";
+        return Short::One(Object::PlaceTab);
     }
     if local == b"softHyphen".as_slice() {
-        return b"\\[softHyphen]";
+        return Short::One(Object::SoftHyphen);
     }
     if local == b"fldChar".as_slice() {
-        return field_body(value_in(tail, b"fldCharType"));
+        return part_of(value_in(tail, b"fldCharType"));
     }
-    b""
+    Short::Nothing
 }
 
-fn field_body(part: &[u8]) -> &'static [u8]
-    ensures { result.now ≡ texts_body (field_part part.now) }
+fn part_of(kind: &[u8]) -> Short
+    ensures { short_of result ≡ field_part kind.now }
 {
-    if part == b"begin".as_slice() {
-        return b"\\[field begin]";
+    if kind == b"begin".as_slice() {
+        return Short::One(Object::FieldBegin);
     }
-    if part == b"separate".as_slice() {
-        return b"\\[field separate]";
+    if kind == b"separate".as_slice() {
+        return Short::One(Object::FieldSeparate);
     }
-    if part == b"end".as_slice() {
-        return b"\\[field end]";
+    if kind == b"end".as_slice() {
+        return Short::One(Object::FieldEnd);
     }
-    b""
+    Short::Nothing
 }

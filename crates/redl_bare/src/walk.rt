@@ -1,42 +1,36 @@
 //! The walk over the nodes of a story, which puts their units.
 
-ghost use Rattle.std.specs.Prelude.{◌≡◌, map, false, OnOk};
+ghost use Rattle.std.specs.Prelude.{◌≡◌};
 ghost use Rattle.redl_tree.specs.Model.View.{nodes_of, item_of, tag_of, kids_of};
-ghost use Rattle.redl_bare.specs.Units.{byte, in_marks, byte_texts, start_texts, short_texts, start_things, member_units, open_units, start_units, end_things, end_units, units_in};
-ghost use Rattle.redl_bare.specs.BareText.{texts_body};
-ghost use Rattle.redl_bare.specs.Inside.Escapes.{is_empty};
-ghost use Rattle.redl_shown.specs.Shown.{shown};
+ghost use Rattle.redl_bare.specs.Units.{in_marks, byte_texts, start_texts, short_texts, start_things, member_units, open_units, start_units, end_things, end_units, units_in};
 ghost use Rattle.redl_bare.specs.Inside.Items.{held_units, element_units, item_units};
-ghost use Rattle.redl_bare.specs.Inside.Views.{marks_view, line_view};
 ghost use Rattle.redl_bare.specs.Inside.Puts.{PutsUnits};
+ghost use Rattle.redl_bare.specs.Inside.Texts.{short_of};
+ghost use Rattle.redl_bare.specs.Inside.Views.{marks_view};
 
-use crate::escape::{is_shown, put_shown};
-use crate::fields::put_field;
 use crate::idle::put_idle;
-use crate::line::{Line, begin, put_member, put_story, put_texts, put_thing};
+use crate::line::{put_member, put_story, put_thing};
 use crate::marks::{enter, stamp_in};
 use crate::place::{BarePlace, is_left_out};
-use crate::starts::{end_body, start_body};
+use crate::starts::{Short, end_of, start_of};
+use crate::texts::{put_field, put_short, put_shown_texts};
 use crate::units::{Story, Thing, has_line};
 use crate::values::value_in;
+use crate::writer::Writer;
 use redl_io::{Failed, Sink};
-use redl_marks::Marks;
 use redl_tree::{Elem, Node, Space, Word, is_named, is_word};
 
-/// Puts the units of nodes at this place and with these marks, which are the same again after them.
+/// Puts the units of nodes at this place. The marks are the same again after them.
 #[cycle(units)]
 pub(crate) fn put_nodes<'a, K: Sink>(
     nodes: &[Node<'a>],
     place: BarePlace,
-    marks: &mut Marks<'a>,
-    line: &mut Line<'a>,
-    out: &mut K,
+    writer: &mut Writer<'a, K>,
 ) -> Result<(), Failed>
-    ensures puts { PutsUnits K.told K.faults K.settled K.lenders out.old out.new (line_view line.old) (line_view line.new) (units_in place (marks_view marks.old) (nodes_of nodes.now)) result }
-    ensures marks { OnOk result (marks.new ≡ marks.old) }
+    ensures { PutsUnits K.told K.faults K.settled K.lenders writer.old writer.new (units_in place (marks_view writer.old.marks) (nodes_of nodes.now)) result }
 {
     for node in nodes {
-        put_node(node, place, marks, line, out)?;
+        put_node(node, place, writer)?;
     }
     Ok(())
 }
@@ -45,17 +39,14 @@ pub(crate) fn put_nodes<'a, K: Sink>(
 fn put_node<'a, K: Sink>(
     node: &Node<'a>,
     place: BarePlace,
-    marks: &mut Marks<'a>,
-    line: &mut Line<'a>,
-    out: &mut K,
+    writer: &mut Writer<'a, K>,
 ) -> Result<(), Failed>
-    ensures puts { PutsUnits K.told K.faults K.settled K.lenders out.old out.new (line_view line.old) (line_view line.new) (item_units place (marks_view marks.old) (item_of node.now)) result }
-    ensures marks { OnOk result (marks.new ≡ marks.old) }
+    ensures { PutsUnits K.told K.faults K.settled K.lenders writer.old writer.new (item_units place (marks_view writer.old.marks) (item_of node.now)) result }
 {
     match node {
-        Node::Elem(elem) => put_elem(elem, place, marks, line, out),
-        Node::Bytes(bytes) => put_bytes(bytes, place, marks, line, out),
-        Node::Plain(plain) => put_idle(plain, place, marks, line, out),
+        Node::Elem(elem) => put_elem(elem, place, writer),
+        Node::Bytes(bytes) => put_bytes(bytes, place, writer),
+        Node::Plain(plain) => put_idle(plain, place, writer),
     }
 }
 
@@ -64,16 +55,13 @@ fn put_node<'a, K: Sink>(
 pub(crate) fn put_elem<'a, K: Sink>(
     elem: &Elem<'a>,
     place: BarePlace,
-    marks: &mut Marks<'a>,
-    line: &mut Line<'a>,
-    out: &mut K,
+    writer: &mut Writer<'a, K>,
 ) -> Result<(), Failed>
-    ensures puts { PutsUnits K.told K.faults K.settled K.lenders out.old out.new (line_view line.old) (line_view line.new) (element_units place (marks_view marks.old) (tag_of elem.now) (kids_of elem.now)) result }
-    ensures marks { OnOk result (marks.new ≡ marks.old) }
+    ensures { PutsUnits K.told K.faults K.settled K.lenders writer.old writer.new (element_units place (marks_view writer.old.marks) (tag_of elem.now) (kids_of elem.now)) result }
 {
-    put_start(elem, place, marks, line, out)?;
-    put_held(elem, place, marks, line, out)?;
-    put_end(elem, place, marks, line, out)
+    put_start(elem, place, writer)?;
+    put_held(elem, place, writer)?;
+    put_end(elem, place, writer)
 }
 
 // Puts the units of what an element holds.
@@ -81,16 +69,13 @@ pub(crate) fn put_elem<'a, K: Sink>(
 fn put_held<'a, K: Sink>(
     elem: &Elem<'a>,
     place: BarePlace,
-    marks: &mut Marks<'a>,
-    line: &mut Line<'a>,
-    out: &mut K,
+    writer: &mut Writer<'a, K>,
 ) -> Result<(), Failed>
-    ensures puts { PutsUnits K.told K.faults K.settled K.lenders out.old out.new (line_view line.old) (line_view line.new) (held_units place (marks_view marks.old) (tag_of elem.now) (kids_of elem.now)) result }
-    ensures marks { OnOk result (marks.new ≡ marks.old) }
+    ensures { PutsUnits K.told K.faults K.settled K.lenders writer.old writer.new (held_units place (marks_view writer.old.marks) (tag_of elem.now) (kids_of elem.now)) result }
 {
-    let came = enter(marks, elem);
-    put_nodes(elem.kids(), place.inside(elem), marks, line, out)?;
-    marks.leave(came);
+    let came = enter(&mut writer.marks, elem);
+    put_nodes(elem.kids(), place.inside(elem), writer)?;
+    writer.marks.leave(came);
     Ok(())
 }
 
@@ -98,114 +83,82 @@ fn put_held<'a, K: Sink>(
 fn put_bytes<'a, K: Sink>(
     bytes: &[u8],
     place: BarePlace,
-    marks: &Marks<'a>,
-    line: &mut Line<'a>,
-    out: &mut K,
+    writer: &mut Writer<'a, K>,
 ) -> Result<(), Failed>
-    ensures { PutsUnits K.told K.faults K.settled K.lenders out.old out.new (line_view line.old) (line_view line.new) (in_marks (marks_view marks.now) (byte_texts place bytes.now)) result }
+    ensures { PutsUnits K.told K.faults K.settled K.lenders writer.old writer.new (in_marks (marks_view writer.old.marks) (byte_texts place bytes.now)) result }
 {
     match place {
-        BarePlace::InText if is_shown(bytes) => put_shown_bytes(bytes, marks, line, out),
+        BarePlace::InText => put_shown_texts(bytes, writer),
         _ => Ok(()),
     }
-}
-
-fn put_shown_bytes<'a, K: Sink>(
-    bytes: &[u8],
-    marks: &Marks<'a>,
-    line: &mut Line<'a>,
-    out: &mut K,
-) -> Result<(), Failed>
-    requires { is_empty (shown bytes.now) ≡ false }
-    ensures { PutsUnits K.told K.faults K.settled K.lenders out.old out.new (line_view line.old) (line_view line.new) (in_marks (marks_view marks.now) (map byte (shown bytes.now))) result }
-{
-    begin(marks, line, out)?;
-    put_shown(bytes, out)
 }
 
 // Puts the units of an element before those that it holds.
 fn put_start<'a, K: Sink>(
     elem: &Elem<'a>,
     place: BarePlace,
-    marks: &Marks<'a>,
-    line: &mut Line<'a>,
-    out: &mut K,
+    writer: &mut Writer<'a, K>,
 ) -> Result<(), Failed>
-    ensures { PutsUnits K.told K.faults K.settled K.lenders out.old out.new (line_view line.old) (line_view line.new) (start_units place (marks_view marks.now) (tag_of elem.now)) result }
+    ensures { PutsUnits K.told K.faults K.settled K.lenders writer.old writer.new (start_units place (marks_view writer.old.marks) (tag_of elem.now)) result }
 {
     match place {
-        BarePlace::Silent | BarePlace::InCounted => Ok(()),
-        BarePlace::Quiet => put_own_member(elem, line, out),
+        BarePlace::Silent => Ok(()),
+        BarePlace::Quiet => put_own_member(elem, writer),
         BarePlace::InRun | BarePlace::InText | BarePlace::InField | BarePlace::Open => {
-            put_open_start(elem, marks, line, out)
+            put_open_start(elem, writer)
         }
     }
 }
 
-fn put_own_member<K: Sink>(elem: &Elem<'_>, line: &mut Line<'_>, out: &mut K) -> Result<(), Failed>
-    ensures { PutsUnits K.told K.faults K.settled K.lenders out.old out.new (line_view line.old) (line_view line.new) (member_units (tag_of elem.now)) result }
+fn put_own_member<'a, K: Sink>(elem: &Elem<'_>, writer: &mut Writer<'a, K>) -> Result<(), Failed>
+    ensures { PutsUnits K.told K.faults K.settled K.lenders writer.old writer.new (member_units (tag_of elem.now)) result }
 {
     if has_line(elem.kind()) {
-        return put_member(elem.kind(), stamp_in(elem.tail()), line, out);
+        return put_member(elem.kind(), stamp_in(elem.tail()), writer);
     }
     Ok(())
 }
 
-fn put_open_start<'a, K: Sink>(
-    elem: &Elem<'a>,
-    marks: &Marks<'a>,
-    line: &mut Line<'a>,
-    out: &mut K,
-) -> Result<(), Failed>
-    ensures { PutsUnits K.told K.faults K.settled K.lenders out.old out.new (line_view line.old) (line_view line.new) (open_units (marks_view marks.now) (tag_of elem.now)) result }
+fn put_open_start<'a, K: Sink>(elem: &Elem<'a>, writer: &mut Writer<'a, K>) -> Result<(), Failed>
+    ensures { PutsUnits K.told K.faults K.settled K.lenders writer.old writer.new (open_units (marks_view writer.old.marks) (tag_of elem.now)) result }
 {
-    put_start_texts(elem, marks, line, out)?;
-    put_things(elem, marks, line, out)
+    put_start_texts(elem, writer)?;
+    put_things(elem, writer)
 }
 
-fn put_start_texts<'a, K: Sink>(
-    elem: &Elem<'a>,
-    marks: &Marks<'a>,
-    line: &mut Line<'a>,
-    out: &mut K,
-) -> Result<(), Failed>
-    ensures { PutsUnits K.told K.faults K.settled K.lenders out.old out.new (line_view line.old) (line_view line.new) (in_marks (marks_view marks.now) (start_texts (tag_of elem.now))) result }
+fn put_start_texts<'a, K: Sink>(elem: &Elem<'a>, writer: &mut Writer<'a, K>) -> Result<(), Failed>
+    ensures { PutsUnits K.told K.faults K.settled K.lenders writer.old writer.new (in_marks (marks_view writer.old.marks) (start_texts (tag_of elem.now))) result }
 {
     if is_named(elem, b"fldSimple") {
-        return put_field(value_in(elem.tail(), b"instr"), marks, line, out);
+        return put_field(value_in(elem.tail(), b"instr"), writer);
     }
-    put_texts(start_of(elem), marks, line, out)
+    put_short(start_of_elem(elem), writer)
 }
 
-// What an element that is no field shows in its line at its start tag, as it is written there.
-fn start_of(elem: &Elem) -> &'static [u8]
-    ensures { result.now ≡ texts_body (short_texts (tag_of elem.now)) }
+// What an element that is no field shows in its line.
+fn start_of_elem(elem: &Elem) -> Short
+    ensures { short_of result ≡ short_texts (tag_of elem.now) }
 {
     match elem.space() {
-        Space::W => start_body(elem.local(), elem.tail()),
-        _ => b"",
+        Space::W => start_of(elem.local(), elem.tail()),
+        _ => Short::Nothing,
     }
 }
 
 // Puts the lines that an element begins.
-fn put_things<'a, K: Sink>(
-    elem: &Elem<'a>,
-    marks: &Marks<'a>,
-    line: &mut Line<'a>,
-    out: &mut K,
-) -> Result<(), Failed>
-    ensures { PutsUnits K.told K.faults K.settled K.lenders out.old out.new (line_view line.old) (line_view line.new) (start_things (marks_view marks.now) (tag_of elem.now)) result }
+fn put_things<'a, K: Sink>(elem: &Elem<'a>, writer: &mut Writer<'a, K>) -> Result<(), Failed>
+    ensures { PutsUnits K.told K.faults K.settled K.lenders writer.old writer.new (start_things (marks_view writer.old.marks) (tag_of elem.now)) result }
 {
     if is_word(elem, Word::Tr) {
-        put_thing(Thing::Row, marks, line, out)
+        put_thing(Thing::Row, writer)
     } else if is_word(elem, Word::Tc) {
-        put_thing(Thing::Cell, marks, line, out)
+        put_thing(Thing::Cell, writer)
     } else if is_left_out(elem) {
         Ok(())
     } else if is_word(elem, Word::Footnote) {
-        put_story(Story::Footnote, line, out)
+        put_story(Story::Footnote, writer)
     } else if is_word(elem, Word::Endnote) {
-        put_story(Story::Endnote, line, out)
+        put_story(Story::Endnote, writer)
     } else {
         Ok(())
     }
@@ -215,27 +168,23 @@ fn put_things<'a, K: Sink>(
 fn put_end<'a, K: Sink>(
     elem: &Elem<'a>,
     place: BarePlace,
-    marks: &Marks<'a>,
-    line: &mut Line<'a>,
-    out: &mut K,
+    writer: &mut Writer<'a, K>,
 ) -> Result<(), Failed>
-    ensures { PutsUnits K.told K.faults K.settled K.lenders out.old out.new (line_view line.old) (line_view line.new) (end_units place (marks_view marks.now) (tag_of elem.now)) result }
+    ensures { PutsUnits K.told K.faults K.settled K.lenders writer.old writer.new (end_units place (marks_view writer.old.marks) (tag_of elem.now)) result }
 {
-    put_texts(end_body(place.inside(elem)), marks, line, out)?;
-    put_end_things(elem, place, marks, line, out)
+    put_short(end_of(place.inside(elem)), writer)?;
+    put_end_things(elem, place, writer)
 }
 
 fn put_end_things<'a, K: Sink>(
     elem: &Elem<'a>,
     place: BarePlace,
-    marks: &Marks<'a>,
-    line: &mut Line<'a>,
-    out: &mut K,
+    writer: &mut Writer<'a, K>,
 ) -> Result<(), Failed>
-    ensures { PutsUnits K.told K.faults K.settled K.lenders out.old out.new (line_view line.old) (line_view line.new) (end_things place (marks_view marks.now) (tag_of elem.now)) result }
+    ensures { PutsUnits K.told K.faults K.settled K.lenders writer.old writer.new (end_things place (marks_view writer.old.marks) (tag_of elem.now)) result }
 {
     if place.is_open() && is_word(elem, Word::P) {
-        return put_thing(Thing::Paragraph, marks, line, out);
+        return put_thing(Thing::Paragraph, writer);
     }
     Ok(())
 }

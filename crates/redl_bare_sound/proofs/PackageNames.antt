@@ -6,9 +6,11 @@ use Rattle.redl_tree.specs.Model.View.{Element}
 use Rattle.redl_tree.specs.Roles.Names.{is}
 use Rattle.redl_order.specs.Order.{ordered}
 use Rattle.redl_bare.specs.Marks.{Marks, stamp_in, no_marks, marks_inside}
-use Rattle.redl_bare.specs.Units.{Text, BareUnit, thing, member, story, in_marks, has_line, is_left_out, is_open_place, place_inside, start_texts, end_texts, start_things, member_units, open_units, start_units, end_things, end_units, byte_texts, units_in, root_units, story_units, package_units}
+use Rattle.redl_bare.specs.Units.{Text, BareUnit, text, thing, member, story, in_marks, has_line, is_left_out, is_open_place, place_inside, start_texts, end_texts, start_things, member_units, open_units, start_units, end_things, end_units, byte_texts, units_in, root_units, story_units}
+use Rattle.redl_bare.specs.Fields.{Fields, no_field, after_text, is_shown, uncounted}
+use Rattle.redl_bare.specs.Package.{package_units}
 use Rattle.redl_bare.specs.declared.place.BarePlace.{BarePlace}
-use Rattle.redl_bare.specs.declared.place.BarePlace.TheVariants.{Open, InText, InRun, InField, InCounted, Quiet, Silent}
+use Rattle.redl_bare.specs.declared.place.BarePlace.TheVariants.{Open, InText, InRun, InField, Quiet, Silent}
 use Rattle.redl_bare.specs.declared.units.Thing.TheVariants.{Paragraph, Row, Cell}
 use Rattle.redl_bare.specs.declared.units.Story.TheVariants.{Document, Header, Footer, Footnote, Endnote}
 use Rattle.redl_bare_sound.specs.Said.{AreNamed}
@@ -49,7 +51,6 @@ start_named Quiet marks tag = member_named tag
 start_named InRun marks tag = open_named marks tag
 start_named InText marks tag = open_named marks tag
 start_named InField marks tag = open_named marks tag
-start_named InCounted marks tag = tt
 start_named Open marks tag = open_named marks tag
 
 end_named : (place : BarePlace) (marks : Marks) (tag : Tag) → AreNamed (end_units place marks tag)
@@ -86,5 +87,16 @@ stories_named : (roots : List Element) → AreNamed (flat_map story_units roots)
 stories_named [] = tt
 stories_named (root ∷ roots) = and_then (story_units root) (flat_map story_units roots) (story_named root) (stories_named roots)
 
+-- and none is found anew where results are left out
+uncounted_named : (f : Fields) (units : List BareUnit) → AreNamed units → AreNamed (uncounted f units)
+uncounted_named f [] a = tt
+uncounted_named f (text marks t ∷ units) a =
+    and_then (if is_shown f t then text marks t ∷ [] else []) (uncounted (after_text f t) units)
+    (choice (is_shown f t) (text marks t ∷ []) [] (refl, tt) tt)
+    (uncounted_named (after_text f t) units a.1)
+uncounted_named f (thing marks t ∷ units) a = (refl, uncounted_named f units a.1)
+uncounted_named f (member kind stamp ∷ units) a = (a.0, uncounted_named f units a.1)
+uncounted_named f (story s ∷ units) a = (refl, uncounted_named no_field units a.1)
+
 pub package_named : (nodes : Nodes) → AreNamed (package_units nodes)
-package_named nodes = stories_named (ordered nodes)
+package_named nodes = uncounted_named no_field (flat_map story_units (ordered nodes)) (stories_named (ordered nodes))

@@ -2,7 +2,9 @@
 use Rattle.std.proofs.Common.{◌≡◌, ℕ, List, [], ◌∷◌, ◌++◌, Bool, true, false, not, refl, sym, ap, ◌∙◌, append_assoc, eqb, if◌then◌else◌, arith}
 use Rattle.std.proofs.lemmas.Bool.{eqb-true, eqb-false}
 use Rattle.redl_reading.specs.Lists.{front}
-use Rattle.redl_bare.specs.Units.{Object, picture, footnote_reference, endnote_reference, symbol, place_tab, soft_hyphen, field_begin, field_separate, field_end, Text, byte, object}
+use Rattle.redl_bare.specs.declared.object.Object.{Object}
+use Rattle.redl_bare.specs.declared.object.Object.TheVariants.{Picture, FootnoteReference, EndnoteReference, Symbol, PlaceTab, SoftHyphen, FieldBegin, FieldSeparate, FieldEnd}
+use Rattle.redl_bare.specs.Units.{Text, byte, object}
 use Rattle.redl_bare.specs.BareText.{byte_escaped, escaped, object_name, text_body}
 
 abbrev pub head_of : List ℕ → ℕ
@@ -99,38 +101,38 @@ abbrev not_end : ℕ → Bool
 not_end b = not (eqb b 93)
 
 object_front : (o : Object) (X : List ℕ) → front not_end (object_name o ++ (93 ∷ X)) ≡ object_name o
-object_front picture X = refl
-object_front footnote_reference X = refl
-object_front endnote_reference X = refl
-object_front symbol X = refl
-object_front place_tab X = refl
-object_front soft_hyphen X = refl
-object_front field_begin X = refl
-object_front field_separate X = refl
-object_front field_end X = refl
+object_front Picture X = refl
+object_front FootnoteReference X = refl
+object_front EndnoteReference X = refl
+object_front Symbol X = refl
+object_front PlaceTab X = refl
+object_front SoftHyphen X = refl
+object_front FieldBegin X = refl
+object_front FieldSeparate X = refl
+object_front FieldEnd X = refl
 
 abbrev field_so : ℕ → Object
-field_so b = if eqb b 98 then field_begin else if eqb b 115 then field_separate else field_end
+field_so b = if eqb b 98 then FieldBegin else if eqb b 115 then FieldSeparate else FieldEnd
 
 -- the object whose name begins so
 abbrev named_so : List ℕ → Object
 named_so name =
-    if eqb (head_of name) 112 then (if eqb (head_of (tail_of name)) 105 then picture else place_tab)
-    else if eqb (head_of name) 101 then endnote_reference
-    else if eqb (head_of name) 115 then (if eqb (head_of (tail_of name)) 121 then symbol else soft_hyphen)
-    else if eqb (head_of (tail_of name)) 111 then footnote_reference
+    if eqb (head_of name) 112 then (if eqb (head_of (tail_of name)) 105 then Picture else PlaceTab)
+    else if eqb (head_of name) 101 then EndnoteReference
+    else if eqb (head_of name) 115 then (if eqb (head_of (tail_of name)) 121 then Symbol else SoftHyphen)
+    else if eqb (head_of (tail_of name)) 111 then FootnoteReference
     else field_so (head_of (tail_of (tail_of (tail_of (tail_of (tail_of (tail_of name)))))))
 
 named_back : (o : Object) → named_so (object_name o) ≡ o
-named_back picture = refl
-named_back footnote_reference = refl
-named_back endnote_reference = refl
-named_back symbol = refl
-named_back place_tab = refl
-named_back soft_hyphen = refl
-named_back field_begin = refl
-named_back field_separate = refl
-named_back field_end = refl
+named_back Picture = refl
+named_back FootnoteReference = refl
+named_back EndnoteReference = refl
+named_back Symbol = refl
+named_back PlaceTab = refl
+named_back SoftHyphen = refl
+named_back FieldBegin = refl
+named_back FieldSeparate = refl
+named_back FieldEnd = refl
 
 object_same : (o p : Object) (X Y : List ℕ) → object_name o ++ (93 ∷ X) ≡ object_name p ++ (93 ∷ Y) → o ≡ p
 object_same o p X Y h =

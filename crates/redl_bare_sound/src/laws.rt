@@ -2,7 +2,8 @@
 
 ghost use Rattle.std.specs.Prelude.{◌≡◌, List, map};
 ghost use Rattle.redl_tree.specs.Model.Nodes.{Nodes};
-ghost use Rattle.redl_bare.specs.Units.{BareUnit, package_units};
+ghost use Rattle.redl_bare.specs.Units.{BareUnit};
+ghost use Rattle.redl_bare.specs.Package.{package_units};
 ghost use Rattle.redl_bare.specs.BareText.{units_text, bare_text};
 ghost use Rattle.redl_bare_sound.specs.Said.{AreNamed, said_unit};
 

@@ -19,7 +19,7 @@ ghost use Rattle.redl_terminal.specs.Masks.{masked};
 ghost use Rattle.redl_terminal.specs.declared.extent.Extent.TheVariants.{Lines};
 ghost use Rattle.redl_views.specs.Walks.{walk_text};
 
-use redl_bare::put_bare;
+use redl_bare::{Writer, put_bare};
 use redl_commands::Collected;
 use redl_index::{Counted, Surveyed};
 use redl_inputs::read_package;
@@ -104,9 +104,9 @@ fn show_bare(alloc: Global, counted: Counted) -> Result<Shown, AllocError>
     ensures { IfOk result (λ shown. shown_text shown ≡ bare_text counted.entry.pkg) }
 {
     let stories = ordered(alloc, &counted.pkg)?;
-    let mut text = Collected::new(alloc);
+    let mut text = Writer::new(Collected::new(alloc));
     match put_bare(stories, &mut text) {
-        Ok(()) => Ok(Shown::Made(text.bytes)),
+        Ok(()) => Ok(Shown::Made(text.sink.bytes)),
         Err(_) => Err(AllocError),
     }
 }

@@ -5,6 +5,8 @@ use Rattle.redl_marks.specs.declared.mark.Stamp as code_stamp
 use Rattle.redl_marks.specs.declared.mark.Mark as code_mark
 pub use Rattle.redl_marks.specs.Views.{stamp_view, mark_view, marks_view, without_at}
 use Rattle.redl_bare.specs.Marks.{Stamp, Mark, Marks}
+use Rattle.redl_bare.specs.Fields.{Fields}
+use Rattle.redl_bare.specs.declared.fields.Fields as code_fields
 use Rattle.redl_bare.specs.declared.line.Line as code_line
 
 abbrev pub slot_view : Option code_stamp.Stamp → Option Stamp
@@ -16,3 +18,6 @@ own_view mark = option_map mark_view mark
 -- the line that is open, if one is
 abbrev pub line_view : code_line.Line → Option Marks
 line_view line = if line.is_open then Some (marks_view line.marks) else None
+
+abbrev pub fields_view : code_fields.Fields → Fields
+fields_view fields = record { in_code = fields.in_code; code = fields.code.items; silent = fields.silent }

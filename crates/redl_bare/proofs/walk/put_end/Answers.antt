@@ -1,18 +1,22 @@
-use Rattle.std.proofs.Common.{◌++◌, sym, ap}
+use Rattle.std.proofs.Common.{◌++◌, refl, sym, ap, ◌∙◌}
 use Rattle.redl_tree.specs.Model.View.{tag_of}
 use Rattle.redl_bare.specs.Units.{end_texts, end_things, in_marks}
+use Rattle.redl_bare.specs.Inside.Texts.{short_of}
+use Rattle.redl_bare.specs.Inside.UnitLaws.{units_then, units_fail}
 use Rattle.redl_bare.specs.Inside.Views.{marks_view}
-use Rattle.redl_bare.proofs.LineLaws.{units_then, units_fail}
 use Rattle.redl_bare.proofs.walk.put_end.Goals as goal
 
-pub returns-in_err-put_texts : goal.returns-in_err-put_texts
-returns-in_err-put_texts g c =
-    let marks = marks_view c.args.marks.now in
-    units_fail _ (ap (λ place. in_marks marks (end_texts place) ++ end_things c.args.place marks (tag_of c.args.elem.now)) (sym c.inside.ensures))
-    c.from_residual.ensures.1 (c.in_err-put_texts.ensures (end_texts c.inside.result) c.end_body.ensures)
+pub returns-in_err-put_short : goal.returns-in_err-put_short
+returns-in_err-put_short g c =
+    let marks = marks_view c.args.writer.now.marks in
+    units_fail _ (ap (λ texts. in_marks marks texts ++ end_things c.args.place marks (tag_of c.args.elem.now)) (sym (c.end_of.ensures ∙ ap end_texts c.inside.ensures)))
+    refl c.from_residual.ensures.1 c.in_err-put_short.ensures
 
 pub returns : goal.returns
 returns g c =
-    let marks = marks_view c.args.marks.now in
-    units_then (ap (λ place. in_marks marks (end_texts place) ++ end_things c.args.place marks (tag_of c.args.elem.now)) (sym c.inside.ensures))
-    (c.in_ok-put_texts.ensures (end_texts c.inside.result) c.end_body.ensures) c.put_end_things.ensures
+    let tag = tag_of c.args.elem.now in
+    let marks = marks_view c.args.writer.now.marks in
+    units_then
+    (ap (λ texts. in_marks marks texts ++ end_things c.args.place marks tag) (sym (c.end_of.ensures ∙ ap end_texts c.inside.ensures))
+    ∙ ap (λ m. in_marks marks (short_of c.end_of.result) ++ end_things c.args.place (marks_view m) tag) (sym c.in_ok-put_short.ensures.after.marks))
+    c.in_ok-put_short.ensures c.put_end_things.ensures

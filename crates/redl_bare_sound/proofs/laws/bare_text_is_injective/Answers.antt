@@ -1,4 +1,4 @@
-use Rattle.redl_bare.specs.Units.{package_units}
+use Rattle.redl_bare.specs.Package.{package_units}
 use Rattle.redl_bare_sound.proofs.Injective.{same_by_text}
 use Rattle.redl_bare_sound.proofs.PackageNames.{package_named}
 use Rattle.redl_bare_sound.proofs.laws.bare_text_is_injective.Goals as goal
