@@ -101,13 +101,21 @@ RUN = re.compile(rb"<w:r>(?:(?!</?w:r>|<w:txbx).)*</w:r>", re.S)
 CODES = [b" PAGE ", b"page", b"NumPages\\* x", b" DATE \\@ &quot;x&quot;", b"REF a&amp;b", b"PAGEREF x", b"", b" ", b"SAVEDATEX"]
 
 
-def with_fields(package, pick):
-    """The package with some of its runs in fields of one element each."""
+FIELD_PART = b'<w:r><w:fldChar w:fldCharType="%s"/></w:r>'
+
+
+def with_fields(package, pick, plain=False):
+    """The package with some of its runs in fields, of one element or of several. Where they aren't plain, some lack a part."""
 
     def field(found):
         if pick.random() > 0.2:
             return found.group()
-        return b'<w:fldSimple w:instr="%s">%s</w:fldSimple>' % (pick.choice(CODES), found.group())
+        code = pick.choice(CODES)
+        if pick.random() < 0.5:
+            return b'<w:fldSimple w:instr="%s">%s</w:fldSimple>' % (code, found.group())
+        begin, separate, end = (FIELD_PART % kind for kind in (b"begin", b"separate", b"end"))
+        parts = (begin, b"<w:r><w:instrText>%s</w:instrText></w:r>" % code, separate, found.group(), end)
+        return b"".join(part for part in parts if plain or pick.random() > 0.1)
 
     return RUN.sub(field, package)
 

@@ -1,7 +1,7 @@
 """Reads bare texts, and makes of each story its paragraphs as a word processor keeps them.
 
-A bare text is what `redline text --view bare` writes. What a word processor counts anew when it stores (page numbers, dates) is
-left out here, and changes of properties of one paragraph come in one order.
+A bare text is what `redline text --view bare` writes. What it keeps of what a word processor counts anew when it stores (names of
+files, numbers of pages that are named) is left out here, and changes of properties of one paragraph come in one order.
 """
 import itertools
 import re

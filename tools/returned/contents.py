@@ -11,7 +11,7 @@ PROPERTIES = ("pPr", "rPr", "sectPr", "tblPr", "tblPrEx", "trPr", "tcPr", "sdtPr
 TEXTS = {"tab": "\t", "br": "\n", "cr": "\n", "noBreakHyphen": "\u2011"}
 REFERENCES = {"footnoteReference": "footnote", "endnoteReference": "endnote", "commentReference": "comment"}
 # Fields whose result a word processor counts anew by itself; their results are left out of the text, those of the first ones as
-# far as they can be a number. A bare text has none of the first two rows of the others where the field is one element.
+# far as they can be a number. A bare text has none of the first two rows of the others.
 COUNTS = ("SECTION", "PAGEREF", "FILESIZE", "NUMWORDS", "NUMCHARS", "REVNUM")
 VOLATILE = (
     "PAGE", "NUMPAGES", "SECTIONPAGES", "DATE", "TIME",

@@ -137,7 +137,7 @@ def pairs_by_chance(path, seconds, most, first):
     while time.monotonic() < end and number < first + most:
         package = small_package(random.Random(number))
         if number % 4 == 3:
-            package = with_fields(package, random.Random(number))
+            package = with_fields(package, random.Random(number), plain=True)
         elif number % 4 == 1:
             package = with_notes(package, random.Random(number), plain=True)
         elif number % 4 == 2:

@@ -6,7 +6,8 @@ Each by chance, drawn from the seed: runs and texts split, neighbouring runs of 
 ids, attributes in another order, proofing marks, bookmarks and page breaks put in, neighbouring changes of one author and date
 merged or split, properties that say nothing added, empty changes dropped, dates cut to the minute, other prefixes. Notes are
 numbered and ordered as their references are, and those that nothing names are gone; headers and footers have other names and
-come in another order. The part that names the program says that Word wrote it.
+come in another order. A field in one element becomes one in several, and pages and times are counted anew. The part that names the
+program says that Word wrote it.
 """
 import copy
 import posixpath
@@ -33,6 +34,8 @@ OFFICE_RELATIONSHIPS = (
     "http://purl.oclc.org/ooxml/officeDocument/relationships",
 )
 RANGES = ("moveFromRangeStart", "moveFromRangeEnd", "moveToRangeStart", "moveToRangeEnd")
+# The fields that count pages or tell the time.
+COUNTED = ("PAGE", "NUMPAGES", "SECTIONPAGES", "DATE", "TIME", "SAVEDATE", "PRINTDATE", "CREATEDATE", "EDITTIME")
 # What Word says of itself in the part docProps/app.xml.
 APPLICATION = (
     '<pkg:part xmlns:pkg="%s" pkg:name="/docProps/app.xml" '
@@ -83,6 +86,7 @@ class Rewriter:
             if space in (W, STRICT) and local in STORIES:
                 self.space, self.ranges = space, {}
                 self.container(story)
+                self.count(story, [])
                 for element in story.iter():
                     self.attributes(element)
         Numberer(package, self.seed).number()
@@ -115,10 +119,57 @@ class Rewriter:
         for kid in list(element):
             self.container(kid)
         if self.local(element) not in PROPERTIES:
+            self.fields(element)
             self.runs(element)
             self.changes(element)
             if self.local(element) == "p":
                 self.noise(element)
+
+    # Fields
+
+    def fields(self, element):
+        out = []
+        for kid in list(element):
+            out += self.in_several(kid) if self.local(kid) == "fldSimple" and self.chance(0.5) else [kid]
+        refill(element, out)
+
+    def in_several(self, field):
+        """A field in one element, as one in several."""
+        begin, separate, end = (self.run_of("fldChar", {self.name("fldCharType"): kind}) for kind in ("begin", "separate", "end"))
+        code = self.run_of("instrText", {SPACE: "preserve"})
+        code[0].text, end.tail = field.get(self.name("instr")) or "", field.tail
+        return [begin, code, separate, *field, end]
+
+    def run_of(self, local, attributes):
+        run = ElementTree.Element(self.name("r"))
+        ElementTree.SubElement(run, self.name(local), attributes)
+        return run
+
+    def count(self, element, fields):
+        """Counts pages and times anew. Of each field that is open `fields` has the code, and whether its result has begun."""
+        for kid in element:
+            local, kind = self.local(kid), kid.get(self.name("fldCharType"))
+            if local == "fldSimple":
+                self.count(kid, fields + [[kid.get(self.name("instr")) or "", True]])
+                continue
+            if kind == "begin":
+                self.meet(fields, "")
+                fields.append(["", False])
+            elif kind == "separate" and fields:
+                fields[-1][1] = True
+            elif kind == "end" and fields:
+                fields.pop()
+            elif local in ("instrText", "delInstrText"):
+                self.meet(fields, (fields[-1][0] if fields else "") + (kid.text or ""))
+            elif local in ("t", "delText") and kid.text and any(shows and is_counted(code) for code, shows in fields):
+                kid.text = str(self.random.randint(1, 999))
+            self.count(kid, fields)
+
+    @staticmethod
+    def meet(fields, code):
+        """Gives the last field this code, where its code goes on. (A field in a code ends it.)"""
+        if fields and not fields[-1][1]:
+            fields[-1][0] = code
 
     # Runs
 
@@ -165,7 +216,7 @@ class Rewriter:
     def cut(self, kids, place):
         """The kids before and after a place in one of them, whose text is cut where it can be."""
         one, text = kids[place], kids[place].text or ""
-        if self.local(one) not in ("t", "delText") or len(text) < 2 or len(one):
+        if self.local(one) not in ("t", "delText", "instrText") or len(text) < 2 or len(one):
             return kids[:place], kids[place:]
         at = self.random.randint(1, len(text) - 1)
         left, right = copy.deepcopy(one), copy.deepcopy(one)
@@ -306,6 +357,10 @@ class Numberer:
         places = [place for place, part in enumerate(parts) if len(part[0]) and local_of(part[0][0]) in ("hdr", "ftr")]
         drawn = self.random.sample(places, len(places))
         refill(self.package, [parts[drawn[places.index(place)]] if place in places else part for place, part in enumerate(parts)])
+
+
+def is_counted(code):
+    return re.match(r"\s*([^\s\\]*)", code).group(1).upper() in COUNTED
 
 
 def local_of(element):
