@@ -1,17 +1,12 @@
 -- A kept text in which neither `author` nor `Reference` is holds nothing that names a comment, a note or an author.
-use Rattle.std.proofs.Common.{◌≡◌, ◌∙◌, refl, sym, ap, subst, ℕ, List, [], ◌∷◌, ◌++◌, Bool, true, false, true≢false, not, ◌&&◌, cond, bytes_eq, codes, find, is_some, map, Option, None, Some}
+use Rattle.std.proofs.Common.{◌≡◌, ◌∙◌, refl, sym, ap, subst, List, ℕ, [], ◌∷◌, ◌++◌, Bool, true, false, true≢false, cond, bytes_eq, codes, find, is_some, Option, None, Some}
 use Rattle.std.specs.List.{AllByRecursion}
-use Rattle.std.specs.Option.{option_map}
 use Rattle.std.proofs.lemmas.Bool.{and_parts}
-use Rattle.redl_grammar.specs.Names.{Name, name_text as qualified_text}
-use Rattle.redl_grammar.specs.Tails.{Attribute, IsTail, attributes_then, named_value}
-use Rattle.redl_markup.proofs.Listing.{tail_lists}
 use Rattle.redl_markup.specs.Attributes.{attributes_of}
-use Rattle.redl_markup.specs.Decoding.{decoded_value}
 use Rattle.redl_pairs.proofs.ElementLaws.{lacking}
-use Rattle.redl_pairs.proofs.WordLaws.{lacks-front, lacks-rest}
+use Rattle.redl_pairs.proofs.WordLaws.{lacks-rest}
 use Rattle.redl_reading.specs.Lists.{lacks}
-use Rattle.redl_stamp.specs.Attribute.{attribute_value, has_local_name, is_prefix_of_attributes}
+use Rattle.redl_stamp.specs.Attribute.{attribute_value}
 use Rattle.redl_tree.specs.Model.IdleTexts.{is_idle_text, idle_nodes}
 use Rattle.redl_tree.specs.Model.Laid.{AreLaid}
 use Rattle.redl_tree.specs.Model.Nodes.{Tag, Nodes, no_nodes, bytes, element}
@@ -30,18 +25,11 @@ use Rattle.redl_left.specs.Naming.{lacks_naming}
 use Rattle.redl_left.specs.declared.fact.Fact.{Fact}
 use Rattle.redl_left.specs.declared.row.Row.{Row}
 use Rattle.redl_left.specs.declared.rows.TheConstants.{NAMING}
+use Rattle.redl_left.proofs.AttributeLaws.{both_false, no_value, other_name}
 use Rattle.redl_left.proofs.FindLaws.{is_space_w}
 use Rattle.redl_left.proofs.NameLaws.{none_among, none_told}
 
 -- ---- names
-
--- a name that lacks a word is none that has it
-other_name : (w : ℕ) (ws name local : List ℕ) → lacks (w ∷ ws) local ≡ true → lacks (w ∷ ws) name ≡ false → bytes_eq local name ≡ false
-other_name w ws name local lacking has = by (bytes_eq local name) refl
-  where
-    by : (b : Bool) → bytes_eq local name ≡ b → b ≡ false
-    by true e = absurd (true≢false (sym lacking ∙ ap (lacks (w ∷ ws)) (same_bytes local name e) ∙ has))
-    by false e = refl
 
 -- an idle name is none that is not idle
 not_idle : (in_run : Bool) (name local : List ℕ) → is_idle_name in_run local ≡ true → is_idle_name in_run name ≡ false → bytes_eq local name ≡ false
@@ -50,42 +38,6 @@ not_idle in_run name local idle other = by (bytes_eq local name) refl
     by : (b : Bool) → bytes_eq local name ≡ b → b ≡ false
     by true e = absurd (true≢false (sym idle ∙ ap (is_idle_name in_run) (same_bytes local name e) ∙ other))
     by false e = refl
-
--- ---- attributes
-
-local_lacks : (w : ℕ) (ws prefix local : List ℕ) → lacks (w ∷ ws) (qualified_text (record { prefix = prefix; local = local })) ≡ true → lacks (w ∷ ws) local ≡ true
-local_lacks w ws [] local h = h
-local_lacks w ws (p ∷ ps) local h = lacks-rest w ws (58 ∷ []) local (lacks-rest w ws (p ∷ ps) (58 ∷ local) h)
-
-both_false : (a b : Bool) → a ≡ false → (a && b) ≡ false
-both_false a b e = ap (λ (t : Bool). t && b) e
-
-no_author : (attributes : List Attribute) (space : List ℕ) → lacks (codes "author") (attributes_then attributes space) ≡ true
-    → find (has_local_name (codes "author")) (map named_value attributes) ≡ None
-no_author [] space h = refl
-no_author (a ∷ more) space h =
-    let rest = attributes_then more space in
-    let closed = a.quote ∷ rest in
-    let value = a.quote ∷ (a.value ++ closed) in
-    let equated = 61 ∷ (a.right ++ value) in
-    let after_name = a.left ++ equated in
-    let named = lacks-rest 97 (codes "uthor") a.gap (qualified_text a.name ++ after_name) h in
-    let local = local_lacks 97 (codes "uthor") a.name.prefix a.name.local (lacks-front 97 (codes "uthor") (qualified_text a.name) after_name named) in
-    let left = lacks-rest 97 (codes "uthor") (qualified_text a.name) after_name named in
-    let right = lacks-rest 97 (codes "uthor") (61 ∷ []) (a.right ++ value) (lacks-rest 97 (codes "uthor") a.left equated left) in
-    let quoted = lacks-rest 97 (codes "uthor") (a.quote ∷ []) (a.value ++ closed) (lacks-rest 97 (codes "uthor") a.right value right) in
-    let later = lacks-rest 97 (codes "uthor") (a.quote ∷ []) rest (lacks-rest 97 (codes "uthor") a.value closed quoted) in
-    let other = both_false (bytes_eq a.name.local (codes "author")) (is_prefix_of_attributes a.name.prefix) (other_name 97 (codes "uthor") (codes "author") a.name.local local refl) in
-    ap (λ (b : Bool). cond b (Some (named_value a)) (find (has_local_name (codes "author")) (map named_value more))) other ∙ no_author more space later
-
--- what is read of the first attribute with the name
-abbrev first_of : Option (Name × List ℕ) → Option (List ℕ)
-first_of first = option_map decoded_value (option_map (λ attribute. attribute.1) first)
-
-no_value : (tail : List ℕ) → IsTail tail → lacks (codes "author") tail ≡ true → attribute_value tail (codes "author") ≡ None
-no_value tail legal h =
-    ap (λ (attributes : List (Name × List ℕ)). first_of (find (has_local_name (codes "author")) attributes)) (tail_lists tail legal)
-    ∙ ap first_of (no_author legal.attributes legal.space (ap (lacks (codes "author")) (sym legal.whole) ∙ h))
 
 -- ---- rows
 
@@ -114,12 +66,12 @@ no_row in_run parent local tail idle lacking no_author =
 
 -- ---- nodes
 
-found_none : (part parent : List ℕ) (in_run : Bool) (tag : Tag) (kids : Nodes) → Idle in_run tag → IsTail tag.tail
+found_none : (part parent : List ℕ) (in_run : Bool) (tag : Tag) (kids : Nodes) → Idle in_run tag
     → lacks (codes "Reference") tag.local ≡ true → lacks (codes "author") tag.tail ≡ true → found naming part parent tag kids ≡ []
-found_none part parent in_run tag kids i legal local tail =
+found_none part parent in_run tag kids i local tail =
     let names = found_names naming part tag.tail in
     ap (λ (s : Space). found_row part s tag.local tag.tail kids (first_row none NAMING parent s tag.local tag.tail) ++ names) (is_space_w tag.space i.space)
-    ∙ ap (λ (o : Option Row). found_row part spaces.W tag.local tag.tail kids o ++ names) (no_row in_run parent tag.local tag.tail i.name local (no_value tag.tail legal tail))
+    ∙ ap (λ (o : Option Row). found_row part spaces.W tag.local tag.tail kids o ++ names) (no_row in_run parent tag.local tag.tail i.name local (no_value (codes "author") tag.tail tail))
     ∙ none_among naming (λ value. refl) part (attributes_of tag.tail)
 
 naming_in : (in_run : Bool) (part parent : List ℕ) (x : Nodes) → is_idle_in in_run x ≡ true → AreLaid spaces.W x
@@ -134,7 +86,7 @@ naming_in in_run part parent (element tag kids rest) idle laid author reference 
     let r = lacking 82 (codes "eference") tag kids rest laid.1 reference in
     let inside = part_of part tag in
     ap (λ (f : List Find). (f ++ finds naming inside tag.local kids) ++ finds naming part parent rest)
-    (found_none inside parent in_run tag kids p.own laid.0.tail r.local a.tail)
+    (found_none inside parent in_run tag kids p.own r.local a.tail)
     ∙ ap (λ (f : List Find). f ++ finds naming part parent rest) (naming_in (is "r" tag) inside tag.local kids p.below laid.2 a.below r.below)
     ∙ naming_in in_run part parent rest p.later laid.3 a.later r.later
 

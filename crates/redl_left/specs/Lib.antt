@@ -2,6 +2,7 @@ pub mod Facts
 pub mod Names
 pub mod Named
 pub mod Finds
+pub mod Fronts
 pub mod Lines
 pub mod Naming
 pub mod Search

@@ -1,10 +1,11 @@
 //! Where the name of an author stands as a text or as a value.
 
-ghost use Rattle.std.specs.Prelude.{◌≡◌, IfSome, OnOk};
-ghost use Rattle.redl_markup.specs.Decoding.{decoded_value};
+ghost use Rattle.std.specs.Prelude.{◌≡◌, [], ℕ, List, false, IfSome, IsTrue, OnOk};
+ghost use Rattle.redl_markup.specs.Decoding.{decoded_value, is_literal};
 ghost use Rattle.redl_markup.specs.Views.{attribute_view};
 ghost use Rattle.redl_shown.specs.Shown.{shown};
 ghost use Rattle.redl_left.specs.Finds.{found_among, found_name, found_names, found_text, found_told, is_author};
+ghost use Rattle.redl_left.specs.Fronts.{BeginsNone, QuotesNone};
 ghost use Rattle.redl_left.specs.Lines.{noted_all};
 ghost use Rattle.redl_left.specs.Search.{table_of};
 ghost use Rattle.redl_left.specs.Seen.{tables_of};
@@ -14,6 +15,7 @@ use crate::search::Search;
 use crate::seen::Seen;
 use crate::told::shown;
 use redl_markup::{Attribute, decode_value, is_literal, next_attribute};
+use redl_reading::far_until;
 use redl_shown::{ShownPiece, next_shown, start};
 use std::alloc::AllocError;
 
@@ -52,6 +54,18 @@ fn one_run(bytes: &[u8]) -> Option<&[u8]>
     }
 }
 
+// Whether it is plain by their first byte that bytes show no name of an author.
+fn shows_no_author(search: &Search<'_>, bytes: &[u8]) -> bool
+    ensures { IsTrue result → is_author (table_of search.now) (shown bytes.now) ≡ false }
+{
+    match bytes.split_first() {
+        Some((first, _)) => {
+            *first != b'<' && *first != b'&' && search.none_begins(Fact::Name, *first)
+        }
+        None => true,
+    }
+}
+
 // Notes what a stretch of bytes shows if it is the name of an author. `Err` means out of memory.
 fn note_shown(
     search: &Search<'_>,
@@ -61,6 +75,10 @@ fn note_shown(
 ) -> Result<(), AllocError>
     ensures { OnOk result (tables_of seen.new ≡ noted_all (tables_of seen.old) (found_text (table_of search.now) part.now bytes.now)) }
 {
+    // Mostly its first byte is that of no name.
+    if shows_no_author(search, bytes) {
+        return Ok(());
+    }
     if let Some(run) = one_run(bytes) {
         return note_told(search, part, run, seen);
     }
@@ -81,6 +99,44 @@ pub(crate) fn note_text(
         return Ok(());
     }
     note_shown(search, part, bytes, seen)
+}
+
+// Whether a byte of a value is read as it is.
+fn is_literal_byte(byte: u8) -> bool
+    ensures { result ≡ is_literal byte }
+{
+    byte != b'&' && byte != b'\t' && byte != b'\n' && byte != b'\r'
+}
+
+// Whether it is plain by their first byte that no value that begins with bytes is the name of an author.
+fn begins_none(search: &Search<'_>, bytes: &[u8]) -> bool
+    ensures { IsTrue result → BeginsNone (table_of search.now) bytes.now }
+{
+    match bytes.split_first() {
+        Some((first, _)) => is_literal_byte(*first) && search.none_begins(Fact::Name, *first),
+        None => true,
+    }
+}
+
+// The same of all values of a tail that has no `'`, by the bytes after each `"`.
+fn quotes_none(search: &Search<'_>, tail: &[u8]) -> bool
+    ensures { IsTrue result → QuotesNone (table_of search.now) tail.now }
+{
+    let mut left = far_until(tail, b'"').1;
+    while let Some((_, rest)) = left.split_first() {
+        if !begins_none(search, rest) {
+            return false;
+        }
+        left = far_until(rest, b'"').1;
+    }
+    true
+}
+
+// Whether it is plain that no value of a tail is the name of an author.
+fn names_none(search: &Search<'_>, tail: &[u8]) -> bool
+    ensures { IsTrue result → (part : List ℕ) → found_names (table_of search.now) part tail.now ≡ [] }
+{
+    far_until(tail, b'\'').1.is_empty() && quotes_none(search, tail)
 }
 
 // Notes a decoded value if it is the name of an author. `Err` means out of memory.
@@ -131,7 +187,7 @@ fn note_among(
     Ok(())
 }
 
-/// The same; where nothing is named, nothing is looked at.
+/// The same; where nothing is named, or none of the values begins as a name does, the attributes aren't read.
 pub(crate) fn note_names(
     search: &Search<'_>,
     part: &[u8],
@@ -141,6 +197,9 @@ pub(crate) fn note_names(
     ensures { OnOk result (tables_of seen.new ≡ noted_all (tables_of seen.old) (found_names (table_of search.now) part.now tail.now)) }
 {
     if search.names_nothing() {
+        return Ok(());
+    }
+    if names_none(search, tail) {
         return Ok(());
     }
     note_among(search, part, tail, seen)

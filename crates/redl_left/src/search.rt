@@ -74,6 +74,16 @@ impl<'a> Search<'a> {
         }
     }
 
+    /// Whether it is plain that no value with this first byte is named for a fact.
+    pub(crate) fn none_begins(&self, fact: Fact, first: u8) -> bool
+        ensures { IsTrue result → (rest : List ℕ) → (table_of self.now).named fact (first ∷ rest) ≡ false }
+    {
+        match self {
+            Search::Naming => true,
+            Search::Asking { named, .. } => named.none_begins(fact, first),
+        }
+    }
+
     /// The first row that asks for an element. `Err` means out of memory.
     pub(crate) fn first(&self, alloc: Global, asked: &Asked<'_>) -> Result<Option<&Row>, AllocError>
         ensures { IfOk result (λ found. option_copied found ≡ (table_of self.now).first asked.now.parent.now asked.now.space asked.now.local.now asked.now.tail.now) }

@@ -4,7 +4,7 @@ use Rattle.redl_grammar.specs.Names.{Name}
 use Rattle.redl_markup.specs.Attributes.{attributes_of}
 use Rattle.redl_markup.specs.Views.{attribute_view}
 use Rattle.redl_left.specs.Encoded.{noted-append}
-use Rattle.redl_left.specs.Finds.{found_among, found_name, found_names}
+use Rattle.redl_left.specs.Finds.{found_among, found_name}
 use Rattle.redl_left.specs.Lines.{noted_all}
 use Rattle.redl_left.specs.Search.{table_of}
 use Rattle.redl_left.specs.Seen.{tables_of}

@@ -1,5 +1,5 @@
 -- At the end no tables are left.
-use Rattle.std.proofs.Common.{◌≡◌, ◌∙◌, ◌++◌, ap, sym, arith, append-nil, false, map, get_or, List, Bool, Vec, Global}
+use Rattle.std.proofs.Common.{◌∙◌, ◌++◌, ap, sym, arith, append-nil, false, map, get_or, List, Bool, Vec, Global}
 use Rattle.std.proofs.lemmas.List.{drop_all}
 use Rattle.std.specs.List.{list_any}
 use Rattle.redl_left.specs.Facts.{fact_number}

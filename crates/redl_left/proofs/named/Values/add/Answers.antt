@@ -1,9 +1,16 @@
-use Rattle.std.proofs.Common.{ap, ◌∙◌, bytes_eq, is_some}
-use Rattle.std.proofs.lemmas.Map.Text.{btree_map_updates_str}
-use Rattle.redl_left.proofs.NameLaws.{some_added}
+-- One map has a key more.
+use Rattle.std.proofs.Common.{◌∙◌, ap, sym, false}
+use Rattle.std.proofs.lemmas.List.{get_or-map}
+use Rattle.std.proofs.lemmas.Result.{on_ok_weaker}
+use Rattle.redl_left.specs.Named.{has_in}
+use Rattle.redl_left.proofs.NameLaws.{added_at}
 use Rattle.redl_left.proofs.named.Values.add.Goals as goal
 
-pub returns : goal.returns
-returns c = λ other.
-    ap is_some (btree_map_updates_str c.args.value.now c.args.self.now.places c.insert.new.self _ c.in_ok-insert.ensures.updates other)
-    ∙ some_added (bytes_eq c.args.value.now other) _ _
+pub returns-in-Some-clause-added : goal.returns-in-Some-clause-added
+returns-in-Some-clause-added c =
+    let maps = c.args.self.now.by_front.items in
+    let old = c.in-Some.values.now in
+    let within = c.in-Some.ensures.item.3.0 in
+    on_ok_weaker c.put.result (λ keys. λ other.
+    added_at (has_in other) maps c.front_byte.result old c.put.new.values c.args.value.now other (sym c.front_byte.ensures) within
+    (get_or-map (has_in other) maps c.front_byte.result old false within ∙ ap (has_in other) (sym c.in-Some.ensures.value)) (keys other)) c.put.ensures
