@@ -18,7 +18,7 @@ use Rattle.redl_reading.specs.Steps.{or_else}
 use Rattle.redl_idle.specs.Shows.{shows}
 use Rattle.redl_idle.proofs.RoleLaws.{name_same, quiet_same}
 use Rattle.redl_bare.specs.Marks.{Marks, stamp_in, value_in, is_run_change, change_in, run_change, format_mark, own_mark, with_own, marks_inside}
-use Rattle.redl_bare.specs.Units.{Text, text, thing, member, story, BareUnit, has_line, is_other, is_left_out, is_text, open_inside, place_inside, field_texts, short_texts, start_texts, end_texts, start_things, open_units, start_units, end_things, end_units, is_open_place, in_marks, byte_texts, units_in}
+use Rattle.redl_bare.specs.Units.{Text, thing, member, story, BareUnit, has_line, is_other, is_left_out, is_text, open_inside, place_inside, field_texts, short_texts, start_texts, end_texts, start_things, open_units, start_units, end_things, end_units, is_open_place, in_marks, byte_texts, units_in}
 use Rattle.redl_bare.specs.Units.{byte, object, field_part}
 use Rattle.redl_bare.specs.Inside.Idle.{text_number, numbers, numbered, tag_with, texts_at, open_idle, idle_inside, idle_rule, texts_in}
 use Rattle.redl_bare.proofs.FieldLaws.{in_marks-append, numbers_back}

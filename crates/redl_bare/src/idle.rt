@@ -1,6 +1,5 @@
 //! The texts of idle elements that a list keeps as text.
 
-ghost use Rattle.std.specs.Prelude.{◌≡◌};
 ghost use Rattle.redl_tree.specs.Model.IdleTexts.{idle_nodes};
 ghost use Rattle.redl_bare.specs.Units.{start_texts, end_texts, byte_texts, in_marks, units_in};
 ghost use Rattle.redl_bare.specs.Inside.Idle.{tag_with, texts_at, numbers, numbered};

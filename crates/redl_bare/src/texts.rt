@@ -1,12 +1,9 @@
 //! Texts of a line, but for results that are left out.
 
-ghost use Rattle.std.specs.Prelude.{◌≡◌, ◌∷◌, [], map, false, List};
+ghost use Rattle.std.specs.Prelude.{◌∷◌, [], map};
 ghost use Rattle.redl_shown.specs.Pieces.{piece_text};
 ghost use Rattle.redl_shown.specs.Shown.{shown};
-ghost use Rattle.redl_io.specs.Sink.{Puts};
 ghost use Rattle.redl_bare.specs.Units.{byte, object, field_texts, in_marks};
-ghost use Rattle.redl_bare.specs.BareText.{text_begin};
-ghost use Rattle.redl_bare.specs.Inside.Escapes.{is_empty};
 ghost use Rattle.redl_bare.specs.Inside.Puts.{PutsUnits};
 ghost use Rattle.redl_bare.specs.Inside.Texts.{short_of};
 ghost use Rattle.redl_bare.specs.Inside.Views.{marks_view};
