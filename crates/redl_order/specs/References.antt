@@ -1,6 +1,6 @@
 -- The references to headers, footers and notes among nodes (ECMA-376 Part 1, 17.10.2, 17.10.5, 17.11.7 and 17.11.14), in the order in
 -- which they stand.
-use Rattle.std.specs.Prelude.{ℕ, List, [], ◌∷◌, ◌++◌, codes, bytes_eq, Option, Some, None, if◌then◌else◌}
+use Rattle.std.specs.Prelude.{ℕ, Bool, false, not, List, [], ◌∷◌, ◌++◌, codes, bytes_eq, Option, Some, None, if◌then◌else◌}
 use Rattle.redl_tree.specs.Model.Nodes.{Tag, Nodes, no_nodes, bytes, element}
 use Rattle.redl_tree.specs.Roles.Names.{is_w}
 use Rattle.redl_order.specs.Values.{value_in}
@@ -27,9 +27,21 @@ named_kind local =
     else if bytes_eq local (codes "endnoteReference") then Some Endnote
     else None
 
+-- a value that says yes (ECMA-376 Part 1, 17.17.4)
+abbrev pub is_on : List ℕ → Bool
+is_on [] = false
+is_on (b ∷ bs) =
+    if bytes_eq (b ∷ bs) (codes "0") then false
+    else if bytes_eq (b ∷ bs) (codes "false") then false
+    else not (bytes_eq (b ∷ bs) (codes "off"))
+
+-- whether the text that follows a reference is its sign, in place of a number (17.11.7 and 17.11.14)
+abbrev pub has_own_sign : List ℕ → Bool
+has_own_sign tail = is_on (value_in tail (codes "customMarkFollows"))
+
 abbrev pub reference_to : List ℕ → Option Named → List Reference
 reference_to tail None = []
-reference_to tail (Some named) = record { named = named; id = id_in tail } ∷ []
+reference_to tail (Some named) = record { named = named; id = id_in tail; own_sign = has_own_sign tail } ∷ []
 
 -- the reference that an element of W with this local name and tail is, if it is one
 abbrev pub named_by : List ℕ → List ℕ → List Reference

@@ -6,7 +6,7 @@ ghost use Rattle.redl_tree.specs.Model.View.{nodes_of, item_of, tag_of, kids_of}
 ghost use Rattle.redl_order.specs.References.{named_by, named_of, references};
 ghost use Rattle.redl_order.specs.Inside.Items.{item_references};
 
-use crate::reference::{Reference, named_kind};
+use crate::reference::{Reference, is_on, named_kind};
 use crate::values::value_in;
 use redl_idle::{Shows, show};
 use redl_io::Text;
@@ -31,7 +31,12 @@ impl Seen {
             return Ok(());
         };
         let id = Text::copy_of(self.alloc, value_in(tail, b"id"))?;
-        self.references.push(Reference { named, id })?;
+        let own_sign = is_on(value_in(tail, b"customMarkFollows"));
+        self.references.push(Reference {
+            named,
+            id,
+            own_sign,
+        })?;
         Ok(())
     }
 }

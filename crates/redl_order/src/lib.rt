@@ -16,6 +16,6 @@ mod reference;
 mod stories;
 mod values;
 
-pub use order::ordered;
+pub use order::{document_references, ordered};
 pub use reference::{Named, Reference};
 pub use values::value_in;

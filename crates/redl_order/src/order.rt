@@ -23,7 +23,7 @@ use std::alloc::{AllocError, Global};
 pub fn ordered<'n, 'a>(alloc: Global, pkg: &'n Package<'a>) -> Result<Vec<&'n Elem<'a>>, AllocError>
     ensures { IfOk result (λ roots. all_borrowed roots.items ≡ ordered pkg.now) }
 {
-    let references = references(alloc, pkg)?;
+    let references = document_references(alloc, pkg)?;
     let leads = document_leads(alloc, pkg)?;
     let mut roots = Vec::new(alloc);
     push_stories(pkg, Word::Document, &mut roots)?;
@@ -34,8 +34,8 @@ pub fn ordered<'n, 'a>(alloc: Global, pkg: &'n Package<'a>) -> Result<Vec<&'n El
     Ok(roots)
 }
 
-// The references of the document. `Err` means out of memory.
-fn references(alloc: Global, pkg: &Package) -> Result<Vec<Reference>, AllocError>
+/// The references of the document to headers, footers and notes, in their order. `Err` means out of memory.
+pub fn document_references(alloc: Global, pkg: &Package) -> Result<Vec<Reference>, AllocError>
     ensures { IfOk result (λ found. found.items ≡ document_references pkg.now) }
 {
     let mut seen = Seen {

@@ -2,7 +2,7 @@
 
 ghost use Rattle.std.specs.Prelude.{◌≡◌};
 ghost use Rattle.redl_tree.specs.Roles.Words.{name_of};
-ghost use Rattle.redl_order.specs.References.{named_kind, named_number};
+ghost use Rattle.redl_order.specs.References.{is_on, named_kind, named_number};
 ghost use Rattle.redl_order.specs.Order.{is_same, local_name};
 
 use redl_io::Text;
@@ -28,6 +28,8 @@ pub struct Reference {
     pub named: Named,
     /// Its id, as it is written.
     pub id: Text,
+    /// Whether the text that follows it is its sign, in place of a number.
+    pub own_sign: bool,
 }
 
 impl Named {
@@ -54,7 +56,8 @@ impl Named {
         }
     }
 
-    pub(crate) fn is(self, other: Named) -> bool
+    /// Whether both name the same.
+    pub fn is(self, other: Named) -> bool
         ensures { result ≡ is_same self other }
     {
         self.number() == other.number()
@@ -78,4 +81,20 @@ pub(crate) fn named_kind(local: &[u8]) -> Option<Named>
         return Some(Named::Endnote);
     }
     None
+}
+
+/// Whether the value of an attribute says yes.
+pub(crate) fn is_on(value: &[u8]) -> bool
+    ensures { result ≡ is_on value.now }
+{
+    if value.is_empty() {
+        return false;
+    }
+    if value == b"0".as_slice() {
+        return false;
+    }
+    if value == b"false".as_slice() {
+        return false;
+    }
+    value != b"off".as_slice()
 }

@@ -1,5 +1,5 @@
 -- References as one list of numbers, by which the walk over kept text says which of them it found.
-use Rattle.std.specs.Prelude.{◌≡◌, ℕ, List, [], ◌∷◌, ◌++◌, length, OnOk, refl}
+use Rattle.std.specs.Prelude.{◌≡◌, Bool, true, false, ℕ, List, [], ◌∷◌, ◌++◌, length, OnOk, refl}
 use Rattle.std.proofs.Common.{sym, ap, ◌∙◌, append_assoc, append-nil}
 use Rattle.std.proofs.lemmas.Result.{on_ok_weaker}
 use Rattle.redl_idle.specs.Shows.{ShowRule}
@@ -9,10 +9,14 @@ use Rattle.redl_order.specs.declared.find.Anywhere.{Anywhere}
 use Rattle.redl_order.specs.declared.find.Seen.{Seen}
 use Rattle.redl_order.specs.declared.reference.Reference.{Reference}
 
+abbrev pub bit : Bool → ℕ
+bit true = 1
+bit false = 0
+
 -- references, and then these numbers
 abbrev pub encoded_then : List Reference → List ℕ → List ℕ
 encoded_then [] rest = rest
-encoded_then (r ∷ rs) rest = named_number r.named ∷ length r.id ∷ (r.id ++ encoded_then rs rest)
+encoded_then (r ∷ rs) rest = named_number r.named ∷ bit r.own_sign ∷ length r.id ∷ (r.id ++ encoded_then rs rest)
 
 abbrev pub encoded : List Reference → List ℕ
 encoded references = encoded_then references []
@@ -20,12 +24,12 @@ encoded references = encoded_then references []
 encoded-then : (xs : List Reference) (rest : List ℕ) → encoded_then xs rest ≡ encoded xs ++ rest
 encoded-then [] rest = refl
 encoded-then (x ∷ xs) rest =
-    ap (λ (r : List ℕ). named_number x.named ∷ length x.id ∷ (x.id ++ r)) (encoded-then xs rest)
-    ∙ ap (λ (r : List ℕ). named_number x.named ∷ length x.id ∷ r) (sym (append_assoc x.id (encoded xs) rest))
+    ap (λ (r : List ℕ). named_number x.named ∷ bit x.own_sign ∷ length x.id ∷ (x.id ++ r)) (encoded-then xs rest)
+    ∙ ap (λ (r : List ℕ). named_number x.named ∷ bit x.own_sign ∷ length x.id ∷ r) (sym (append_assoc x.id (encoded xs) rest))
 
 encoded-both : (xs ys : List Reference) → encoded (xs ++ ys) ≡ encoded_then xs (encoded ys)
 encoded-both [] ys = refl
-encoded-both (x ∷ xs) ys = ap (λ (r : List ℕ). named_number x.named ∷ length x.id ∷ (x.id ++ r)) (encoded-both xs ys)
+encoded-both (x ∷ xs) ys = ap (λ (r : List ℕ). named_number x.named ∷ bit x.own_sign ∷ length x.id ∷ (x.id ++ r)) (encoded-both xs ys)
 
 pub encoded-append : (xs ys : List Reference) → encoded (xs ++ ys) ≡ encoded xs ++ encoded ys
 encoded-append xs ys = encoded-both xs ys ∙ encoded-then xs (encoded ys)

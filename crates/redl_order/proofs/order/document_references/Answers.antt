@@ -10,7 +10,7 @@ use Rattle.redl_opc.proofs.WalkLaws.{stories_from-start, stories_from-part, stor
 use Rattle.redl_order.specs.Order.{has_name}
 use Rattle.redl_order.specs.References.{references}
 use Rattle.redl_order.specs.declared.reference.Reference.{Reference}
-use Rattle.redl_order.proofs.order.references.Goals as goal
+use Rattle.redl_order.proofs.order.document_references.Goals as goal
 
 pub loop-part-init : goal.loop-part-init
 loop-part-init c =
