@@ -5,6 +5,7 @@ use Rattle.std.specs.Map.Iter.{deref}
 use denote.Ref.{Bor}
 use Rattle.std.proofs.lemmas.Str.{IsUtf8-from_is_utf8, is_utf8-from_IsUtf8}
 use Rattle.std.specs.Str.{IsUtf8, is_utf8}
+use Rattle.redl_places.specs.declared.place.StoryPlace.{StoryPlace}
 use Rattle.redl_excerpts.specs.declared.excerpt.Excerpt.{Excerpt}
 use Rattle.redl_journal.specs.declared.entry.Entry.{Entry}
 use Rattle.redl_excerpts.specs.declared.detail.Detail.{Detail}
@@ -43,28 +44,28 @@ text-lost text bytes nothing same is none =
     none ∙ rw here refl
 
 -- no detail so far
-pub details-begun : (details : List Detail) (left excerpts : List (Option Excerpt)) (entries_on : ℕ → List Entry) (most : ℕ) → details ≡ [] → left ≡ excerpts → length excerpts < most
-    → (details ++ details_from (length details + 1) left entries_on ≡ details_of excerpts entries_on) × (length details + length left < most)
-details-begun details left excerpts entries_on most none all within =
+pub details-begun : (details : List Detail) (left excerpts : List (Option Excerpt)) (place_on : ℕ → StoryPlace) (entries_on : ℕ → List Entry) (most : ℕ) → details ≡ [] → left ≡ excerpts → length excerpts < most
+    → (details ++ details_from (length details + 1) left place_on entries_on ≡ details_of excerpts place_on entries_on) × (length details + length left < most)
+details-begun details left excerpts place_on entries_on most none all within =
     let count : length details ≡ 0 = ap length none in
     let same : length left ≡ length excerpts = ap length all in
     (rw (none, all) refl, omega (arith, count, same, within))
 
 -- one more detail, of the first of the excerpts that are left
-pub details-more : (details more whole : List Detail) (excerpts left : List (Option Excerpt)) (entries_on : ℕ → List Entry) (excerpt : Option Excerpt) (detail : Detail) → excerpts ≡ excerpt ∷ left
-    → detail ≡ detail_if excerpt (entries_on (length details + 1)) → more ≡ details ++ detail ∷ [] → details ++ details_from (length details + 1) excerpts entries_on ≡ whole
-    → more ++ details_from (length more + 1) left entries_on ≡ whole
-details-more details more whole excerpts left entries_on excerpt detail front is grown so_far =
+pub details-more : (details more whole : List Detail) (excerpts left : List (Option Excerpt)) (place_on : ℕ → StoryPlace) (entries_on : ℕ → List Entry) (excerpt : Option Excerpt) (detail : Detail) → excerpts ≡ excerpt ∷ left
+    → detail ≡ detail_if excerpt (place_on (length details + 1)) (entries_on (length details + 1)) → more ≡ details ++ detail ∷ [] → details ++ details_from (length details + 1) excerpts place_on entries_on ≡ whole
+    → more ++ details_from (length more + 1) left place_on entries_on ≡ whole
+details-more details more whole excerpts left place_on entries_on excerpt detail front is grown so_far =
     let next = length details + 1 in
     let count : length more ≡ next = ap length grown ∙ length_push details detail in
-    ap (λ n. more ++ details_from (n + 1) left entries_on) count ∙ ap (λ ds. ds ++ details_from (next + 1) left entries_on) grown
-    ∙ append_assoc details (detail ∷ []) (details_from (next + 1) left entries_on)
-    ∙ ap (λ d. details ++ d ∷ details_from (next + 1) left entries_on) is
-    ∙ ap (λ xs. details ++ details_from next xs entries_on) (sym front) ∙ so_far
+    ap (λ n. more ++ details_from (n + 1) left place_on entries_on) count ∙ ap (λ ds. ds ++ details_from (next + 1) left place_on entries_on) grown
+    ∙ append_assoc details (detail ∷ []) (details_from (next + 1) left place_on entries_on)
+    ∙ ap (λ d. details ++ d ∷ details_from (next + 1) left place_on entries_on) is
+    ∙ ap (λ xs. details ++ details_from next xs place_on entries_on) (sym front) ∙ so_far
 
 -- none is left
-pub details-done : (details whole : List Detail) (left : List (Option Excerpt)) (entries_on : ℕ → List Entry) → left ≡ [] → details ++ details_from (length details + 1) left entries_on ≡ whole → details ≡ whole
-details-done details whole left entries_on none so_far = sym (append-nil details) ∙ (rw none at so_far)
+pub details-done : (details whole : List Detail) (left : List (Option Excerpt)) (place_on : ℕ → StoryPlace) (entries_on : ℕ → List Entry) → left ≡ [] → details ++ details_from (length details + 1) left place_on entries_on ≡ whole → details ≡ whole
+details-done details whole left place_on entries_on none so_far = sym (append-nil details) ∙ (rw none at so_far)
 
 -- as many details and excerpts are left as before
 pub count-more : (details more : List Detail) (excerpts left : List (Option Excerpt)) (excerpt : Option Excerpt) (detail : Detail) (most : ℕ) → excerpts ≡ excerpt ∷ left → more ≡ details ++ detail ∷ []
@@ -82,9 +83,11 @@ words-more words entries i entry said within at is so_far =
     map_more deref entries i entry within ∙ ap (λ e. map deref (take i entries) ++ deref e ∷ []) (sym at) in
     rw (so_far, is) (sym (ap (map last_word_of) more ∙ map-append last_word_of (map deref (take i entries)) (deref entry ∷ [])))
 
--- the same words on each revision make the same details
-pub details_from-same : (number : ℕ) (excerpts : List (Option Excerpt)) (first second : ℕ → List Entry) → ((rev : ℕ) → first rev ≡ second rev) → details_from number excerpts first ≡ details_from number excerpts second
-details_from-same number [] first second same = refl
-details_from-same number (excerpt ∷ more) first second same =
-    ap (λ entries. detail_if excerpt entries ∷ details_from (number + 1) more first) (same number)
-    ∙ ap (λ rest. detail_if excerpt (second number) ∷ rest) (details_from-same (number + 1) more first second same)
+-- the same places and words of each revision make the same details
+pub details_from-same : (number : ℕ) (excerpts : List (Option Excerpt)) (place other : ℕ → StoryPlace) (first second : ℕ → List Entry) → ((rev : ℕ) → place rev ≡ other rev) → ((rev : ℕ) → first rev ≡ second rev)
+    → details_from number excerpts place first ≡ details_from number excerpts other second
+details_from-same number [] place other first second places same = refl
+details_from-same number (excerpt ∷ more) place other first second places same =
+    ap (λ entries. detail_if excerpt (place number) entries ∷ details_from (number + 1) more place first) (same number)
+    ∙ ap (λ p. detail_if excerpt p (second number) ∷ details_from (number + 1) more place first) (places number)
+    ∙ ap (λ rest. detail_if excerpt (other number) (second number) ∷ rest) (details_from-same (number + 1) more place other first second places same)

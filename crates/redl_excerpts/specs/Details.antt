@@ -3,6 +3,9 @@ use Rattle.std.specs.Prelude.{ℕ, ◌+◌, Bool, List, [], ◌∷◌, map, All,
 use Rattle.std.specs.Option.{option_map}
 use Rattle.std.specs.Str.{IsUtf8, is_utf8}
 use Rattle.redl_changed.specs.Changed.{nothing_changed}
+use Rattle.redl_places.specs.Places.{place_on}
+use Rattle.redl_places.specs.declared.place.StoryPlace.{StoryPlace}
+use Rattle.redl_places.specs.declared.place.StoryPlace.TheVariants.{Document}
 use Rattle.redl_excerpts.specs.declared.excerpt.Excerpt.{Excerpt}
 use Rattle.redl_excerpts.specs.Phrases.{kept_text}
 use Rattle.redl_excerpts.specs.Excerpts.{excerpts_of}
@@ -21,34 +24,36 @@ text_or_nothing bytes = if is_utf8 bytes then bytes else []
 abbrev pub last_word_of : Entry → LastWord
 last_word_of entry = record { reviewer = text_or_nothing entry.reviewer; word = entry.word }
 
--- the detail of a revision with this excerpt, where these are the last words on it
-abbrev pub detail_of : Excerpt → List Entry → Detail
-detail_of excerpt entries = record {
+-- the detail of a revision with this excerpt and at this place, where these are the last words on it
+abbrev pub detail_of : Excerpt → StoryPlace → List Entry → Detail
+detail_of excerpt place entries = record {
   words = text_or_nothing (kept_text excerpt.words);
   before = text_or_nothing excerpt.before;
   after = text_or_nothing excerpt.behind;
   id = option_map text_or_nothing excerpt.id;
   changed = excerpt.changed;
+  place = place;
   says = map last_word_of entries;
 }
 
 -- no detail
 abbrev pub no_detail : Detail
-no_detail = record { words = []; before = []; after = []; id = None; changed = nothing_changed; says = [] }
+no_detail = record { words = []; before = []; after = []; id = None; changed = nothing_changed; place = Document; says = [] }
 
 -- the detail of a revision, if there is an excerpt of it
-abbrev pub detail_if : Option Excerpt → List Entry → Detail
-detail_if None entries = no_detail
-detail_if (Some excerpt) entries = detail_of excerpt entries
+abbrev pub detail_if : Option Excerpt → StoryPlace → List Entry → Detail
+detail_if None place entries = no_detail
+detail_if (Some excerpt) place entries = detail_of excerpt place entries
 
 -- the details of revisions, of which the first has this number
-abbrev pub details_from : ℕ → List (Option Excerpt) → (ℕ → List Entry) → List Detail
-details_from number [] entries_on = []
-details_from number (excerpt ∷ more) entries_on = detail_if excerpt (entries_on number) ∷ details_from (number + 1) more entries_on
+abbrev pub details_from : ℕ → List (Option Excerpt) → (ℕ → StoryPlace) → (ℕ → List Entry) → List Detail
+details_from number [] place_on entries_on = []
+details_from number (excerpt ∷ more) place_on entries_on =
+    detail_if excerpt (place_on number) (entries_on number) ∷ details_from (number + 1) more place_on entries_on
 
 -- the details of the revisions from number 1 on
-abbrev pub details_of : List (Option Excerpt) → (ℕ → List Entry) → List Detail
-details_of excerpts entries_on = details_from 1 excerpts entries_on
+abbrev pub details_of : List (Option Excerpt) → (ℕ → StoryPlace) → (ℕ → List Entry) → List Detail
+details_of excerpts place_on entries_on = details_from 1 excerpts place_on entries_on
 
 -- what a detail keeps: its texts are UTF-8
 pub record IsDetail (detail : Detail) : Type 0 where
@@ -60,4 +65,4 @@ pub record IsDetail (detail : Detail) : Type 0 where
 
 -- the details of the revisions of a package that are wanted, on which a book has these entries, and none of each other one
 abbrev pub package_details : Nodes → List Revision → List Bool → List Entry → List Detail
-package_details nodes revisions wanted book = details_of (excerpts_of nodes revisions wanted) (last_words book)
+package_details nodes revisions wanted book = details_of (excerpts_of nodes revisions wanted) (place_on nodes) (last_words book)

@@ -3,6 +3,7 @@
 ghost use Rattle.std.specs.Prelude.{◌≡◌, ◌+◌, ◌^◌, ◌<◌, All, IfOk, length, map};
 ghost use Rattle.std.specs.Map.Iter.{deref};
 ghost use Rattle.redl_join.specs.LastWords.{words_on};
+ghost use Rattle.redl_places.specs.Views.{place_at};
 ghost use Rattle.redl_excerpts.specs.Details.{IsDetail, detail_if, detail_of, details_of, no_detail};
 
 use crate::Excerpt;
@@ -12,6 +13,7 @@ use redl_changed::ChangedSaid;
 use redl_io::Text;
 use redl_join::LastWords;
 use redl_journal::Entry;
+use redl_places::{Places, StoryPlace};
 use std::alloc::{AllocError, Global};
 
 /// The text of a revision and the last words on it.
@@ -27,6 +29,8 @@ pub struct Detail {
     pub id: Option<Text>,
     /// The properties that the revision changes.
     pub changed: ChangedSaid,
+    /// Where its first member is.
+    pub place: StoryPlace,
     /// Who said what.
     pub says: Says,
 }
@@ -42,13 +46,19 @@ impl Detail {
             after: Text::copy_of(alloc, b"")?,
             id: None,
             changed: ChangedSaid::none(alloc)?,
+            place: StoryPlace::Document,
             says: Says::none(alloc),
         })
     }
 
-    // The detail of a revision with this excerpt, where these are the last words on it. `Err` means out of memory.
-    fn of(alloc: Global, excerpt: Excerpt, entries: &[&Entry]) -> Result<Detail, AllocError>
-        ensures value { IfOk result (λ detail. detail ≡ detail_of excerpt (map deref entries.now)) }
+    // The detail of a revision with this excerpt and at this place, where these are the last words on it. `Err` means out of memory.
+    fn of(
+        alloc: Global,
+        excerpt: Excerpt,
+        place: StoryPlace,
+        entries: &[&Entry],
+    ) -> Result<Detail, AllocError>
+        ensures value { IfOk result (λ detail. detail ≡ detail_of excerpt place (map deref entries.now)) }
         ensures utf8 { IfOk result IsDetail }
     {
         let Excerpt {
@@ -70,6 +80,7 @@ impl Detail {
             after,
             id,
             changed,
+            place,
             says,
         })
     }
@@ -90,6 +101,7 @@ impl Detail {
             after,
             id,
             changed,
+            place: self.place,
             says,
         })
     }
@@ -107,36 +119,38 @@ fn copy_if_any(alloc: Global, text: &Option<Text>) -> Result<Option<Text>, Alloc
     }
 }
 
-// The detail of a revision with this excerpt, if there is one. `Err` means out of memory.
+// The detail of a revision at this place with this excerpt, if there is one. `Err` means out of memory.
 fn detail_if(
     alloc: Global,
     excerpt: Option<Excerpt>,
+    place: StoryPlace,
     entries: &[&Entry],
 ) -> Result<Detail, AllocError>
-    ensures value { IfOk result (λ detail. detail ≡ detail_if excerpt (map deref entries.now)) }
+    ensures value { IfOk result (λ detail. detail ≡ detail_if excerpt place (map deref entries.now)) }
     ensures utf8 { IfOk result IsDetail }
 {
     match excerpt {
-        Some(excerpt) => Detail::of(alloc, excerpt, entries),
+        Some(excerpt) => Detail::of(alloc, excerpt, place, entries),
         None => Detail::none(alloc),
     }
 }
 
-/// The details of the revisions of a package, which have these excerpts in the order of their numbers, where these are the last
-/// words on them. A revision without an excerpt has none. `Err` means out of memory.
+/// The details of the revisions of a package, which have these excerpts in the order of their numbers and are at these places, where
+/// these are the last words on them. A revision without an excerpt has none. `Err` means out of memory.
 pub fn details(
     alloc: Global,
     excerpts: Vec<Option<Excerpt>>,
+    places: &Places,
     words: &LastWords<'_>,
 ) -> Result<Vec<Detail>, AllocError>
     requires { length excerpts.items < 2 ^ 32 }
-    ensures value { IfOk result (λ details. details.items ≡ details_of excerpts.items (words_on words.now)) }
+    ensures value { IfOk result (λ details. details.items ≡ details_of excerpts.items (place_at places.now) (words_on words.now)) }
     ensures utf8 { IfOk result (λ details. All IsDetail details.items) }
 {
     let mut details = Vec::new(alloc);
     for excerpt in excerpts {
         let number = details.len() as u32 + 1;
-        let detail = detail_if(alloc, excerpt, words.on(number))?;
+        let detail = detail_if(alloc, excerpt, places.on(number), words.on(number))?;
         details.push(detail)?;
     }
     Ok(details)

@@ -9,6 +9,7 @@ use Rattle.serde_json.specs.Data.{Data, unsigned, object, member, no_members}
 use Rattle.serde_json.specs.Data as value
 use Rattle.serde_json.specs.Written.{items_outline, outline}
 use Rattle.redl_excerpts.specs.declared.last_word.LastWord.{LastWord}
+use Rattle.redl_places.specs.Texts.{place_text}
 use Rattle.redl_kinds.specs.KindNames.{kind_name}
 use Rattle.redl_journal.specs.Journals.{word_text}
 use Rattle.redl_listing.specs.Changed.{change_tokens, changed_tokens, json_changed, json_more, more_token}
@@ -27,7 +28,7 @@ behind_with row more seconds id rest =
     key (codes "changed_more") ∷ more_token more ∷ key (codes "date") ∷ date_token seconds ∷ key (codes "id") ∷ id_token id
     ∷ key (codes "kind") ∷ string (kind_name row.kind) ∷ key (codes "members") ∷ number (decimal row.members)
     ∷ key (codes "number") ∷ number (decimal row.number) ∷ key (codes "part") ∷ string row.part
-    ∷ key (codes "says") ∷ begin_array ∷ rest
+    ∷ key (codes "place") ∷ string (place_text row.detail.place) ∷ key (codes "says") ∷ begin_array ∷ rest
 
 -- those of the object, with these tokens of changed properties and what follows
 abbrev tokens_with : Row → List Token → List Token
@@ -55,9 +56,10 @@ object_with row more seconds id =
     (member (codes "members") (value.number (unsigned row.members))
     (member (codes "number") (value.number (unsigned row.number))
     (member (codes "part") (value.string row.part)
+    (member (codes "place") (value.string (place_text row.detail.place))
     (member (codes "says") (value.array (json_says row.detail.says))
     (member (codes "verdict") (value.string (verdict_name row.verdict))
-    (member (codes "words") (value.string row.detail.words) no_members))))))))))))))
+    (member (codes "words") (value.string row.detail.words) no_members)))))))))))))))
 
 -- the tokens of the last words, and what follows
 says_tokens : (says : List LastWord) (rest : List Token) → flat_map said_tokens says ++ (end_array ∷ rest) ≡ items_tokens (items_outline (json_says says)) ++ rest
@@ -118,15 +120,16 @@ ended : (says : List Token) (c d e f g h : Token) → (((says ++ c ∷ []) ++ d 
 ended says c d e f g h = said_more says c d e f g h
 
 -- all of them
-pub whole_more : (front says : List Token) (a b c d e f g h : Token)
-    → (((front ++ (a ∷ b ∷ (says ++ c ∷ []))) ++ d ∷ e ∷ []) ++ f ∷ g ∷ []) ++ h ∷ [] ≡ front ++ (a ∷ b ∷ (says ++ (c ∷ d ∷ e ∷ f ∷ g ∷ h ∷ [])))
-whole_more [] says a b c d e f g h = ap (λ (ts : List Token). a ∷ b ∷ ts) (ended says c d e f g h)
-whole_more (token ∷ front) says a b c d e f g h = ap (λ (ts : List Token). token ∷ ts) (whole_more front says a b c d e f g h)
+pub whole_more : (front says : List Token) (p q a b c d e f g h : Token)
+    → ((((front ++ p ∷ q ∷ []) ++ (a ∷ b ∷ (says ++ c ∷ []))) ++ d ∷ e ∷ []) ++ f ∷ g ∷ []) ++ h ∷ [] ≡ front ++ (p ∷ q ∷ a ∷ b ∷ (says ++ (c ∷ d ∷ e ∷ f ∷ g ∷ h ∷ [])))
+whole_more [] says p q a b c d e f g h = ap (λ (ts : List Token). p ∷ q ∷ a ∷ b ∷ ts) (ended says c d e f g h)
+whole_more (token ∷ front) says p q a b c d e f g h = ap (λ (ts : List Token). token ∷ ts) (whole_more front says p q a b c d e f g h)
 
 -- all of them, where the first ones are those of a row
-pub row_more : (row : Row) → (begin_object ∷ front_tokens row) ++ (key (codes "says") ∷ begin_array ∷ (flat_map said_tokens row.detail.says ++ (end_array ∷ end_tokens row))) ≡ full_tokens row
+pub row_more : (row : Row)
+    → (begin_object ∷ front_tokens row) ++ (key (codes "place") ∷ string (place_text row.detail.place) ∷ key (codes "says") ∷ begin_array ∷ (flat_map said_tokens row.detail.says ++ (end_array ∷ end_tokens row))) ≡ full_tokens row
 row_more row =
-    let rest = key (codes "says") ∷ begin_array ∷ (flat_map said_tokens row.detail.says ++ (end_array ∷ end_tokens row)) in
+    let rest = key (codes "place") ∷ string (place_text row.detail.place) ∷ key (codes "says") ∷ begin_array ∷ (flat_map said_tokens row.detail.says ++ (end_array ∷ end_tokens row)) in
     let front = λ (ts : List Token). begin_object ∷ key (codes "after") ∷ string row.detail.after ∷ key (codes "author") ∷ string row.author
     ∷ key (codes "before") ∷ string row.detail.before ∷ ts in
     ap front (append_assoc (changed_tokens row.detail.changed.changes) (behind_tokens row) rest

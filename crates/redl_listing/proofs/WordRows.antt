@@ -7,13 +7,15 @@ use Rattle.redl_tree.specs.declared.kinds.Prop.TheVariants as prop
 use Rattle.redl_kinds.specs.declared.rev_kind.RevKind.TheVariants.{Content, Change}
 use Rattle.redl_join.specs.declared.verdict.Verdict.TheVariants.{Accept, Disputed}
 use Rattle.redl_journal.specs.declared.entry.Word.TheVariants as word
+use Rattle.redl_places.specs.declared.place.StoryPlace.TheVariants.{Document, Footnote}
+use Rattle.redl_places.specs.declared.sign.NoteSign.TheVariants.{Count}
 use Rattle.redl_excerpts.specs.Phrases.{begun, heard_byte, paused}
 use Rattle.redl_listing.specs.declared.row.Row.{Row}
 use Rattle.redl_formats.specs.Fields.{newline}
 use Rattle.redl_terminal.specs.Masks.{hidden_length}
 use Rattle.redl_listing.specs.Words.{dots, numbered_columns, quoted, words_columns, words_row}
 
--- a disputed deletion: both neighbours are cut, and who said what comes last
+-- a disputed deletion in a footnote: both neighbours are cut, and who said what comes last
 deletion : Row
 deletion = record {
   number = 32;
@@ -29,12 +31,13 @@ deletion = record {
     after = codes "fourteen days of delivery. The Buyer pay";
     id = None;
     changed = nothing_changed;
+    place = Footnote (Some (Count 3));
     says = record { reviewer = codes "Ann Gray"; word = word.Accept } ∷ record { reviewer = codes "Bob Hay"; word = word.Reject } ∷ [];
   };
 }
 
 row_disputed : words_row deletion
-    ≡ codes "   32 del          disputed Bob Hay       " ++ dots ++ codes "due within [-thirty-]fourteen d" ++ dots ++ codes "  Ann Gray: accept  Bob Hay: reject" ++ newline
+    ≡ codes "   32 del          disputed Bob Hay       " ++ dots ++ codes "due within [-thirty-]fourteen d" ++ dots ++ codes "  footnote 3  Ann Gray: accept  Bob Hay: reject" ++ newline
 unfolding deletion words_row words_columns numbered_columns quoted hidden_length digits heard_byte paused begun
 row_disputed = refl
 
@@ -52,7 +55,7 @@ change = record {
   seconds = None;
   part = codes "/word/document.xml";
   members = 1;
-  detail = record { words = codes "The Seller delivers the goods to the store"; before = []; after = []; id = None; changed = record { changes = []; more = Some 0; line = codes "alignment: not set " ++ (arrow ++ codes "justified") }; says = [] };
+  detail = record { words = codes "The Seller delivers the goods to the store"; before = []; after = []; id = None; changed = record { changes = []; more = Some 0; line = codes "alignment: not set " ++ (arrow ++ codes "justified") }; place = Document; says = [] };
 }
 
 row_change : words_row change ≡ codes "    7 para-props   accept   Dana Fox & C" ++ dots ++ codes " {=alignment: not set " ++ arrow ++ codes "justified=}The Seller delivers the goods " ++ dots ++ newline

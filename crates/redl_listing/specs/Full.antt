@@ -5,6 +5,7 @@ use Rattle.json.specs.Token.{Token, begin_object, end_object, key, null as null_
 use Rattle.serde_json.specs.Data.{Data, Items, null, string, number, unsigned, array, object, member, no_members, item, no_items}
 use Rattle.serde_json.specs.Written.{compact_text}
 use Rattle.redl_excerpts.specs.declared.last_word.LastWord.{LastWord}
+use Rattle.redl_places.specs.Texts.{place_text}
 use Rattle.redl_kinds.specs.KindNames.{kind_name}
 use Rattle.redl_journal.specs.Journals.{word_text}
 use Rattle.redl_listing.specs.declared.row.Row.{Row}
@@ -50,18 +51,19 @@ full_object row =
     (member (codes "members") (number (unsigned row.members))
     (member (codes "number") (number (unsigned row.number))
     (member (codes "part") (string row.part)
+    (member (codes "place") (string (place_text row.detail.place))
     (member (codes "says") (array (json_says row.detail.says))
     (member (codes "verdict") (string (verdict_name row.verdict))
-    (member (codes "words") (string row.detail.words) no_members))))))))))))))
+    (member (codes "words") (string row.detail.words) no_members)))))))))))))))
 
--- the members between the changed properties and the last words, as they are written
+-- the members between the changed properties and the place, as they are written
 abbrev pub behind_tokens : Row → List Token
 behind_tokens row =
     key (codes "changed_more") ∷ more_token row.detail.changed.more ∷ key (codes "date") ∷ date_token row.seconds ∷ key (codes "id") ∷ id_token row.detail.id ∷ key (codes "kind") ∷ string_token (kind_name row.kind)
     ∷ key (codes "members") ∷ number_token (decimal row.members) ∷ key (codes "number") ∷ number_token (decimal row.number)
     ∷ key (codes "part") ∷ string_token row.part ∷ []
 
--- those before the last words
+-- those before the place
 abbrev pub front_tokens : Row → List Token
 front_tokens row =
     key (codes "after") ∷ string_token row.detail.after ∷ key (codes "author") ∷ string_token row.author

@@ -1,12 +1,16 @@
 -- The text of the format `words`: a line for each row, with its words in their paragraph between the signs of what became of them
 -- (our own rule). A terminal of 100 columns shows most of it: number 5, kind 12, verdict 8 and author 13 places, a space behind each; then
--- 12 places before, 4 for the signs, 31 for the words, 11 behind. A disputed row also says who said what.
+-- 12 places before, 4 for the signs, 31 for the words, 11 behind. A row outside the document says where it is,
+-- and a disputed one who said what.
 use Rattle.std.specs.Prelude.{ℕ, ◌-◌, nat_le, false, List, [], ◌∷◌, ◌++◌, replicate, decimal, codes, if◌then◌else◌}
 use Rattle.std.specs.List.{flat_map}
 use Rattle.redl_excerpts.specs.Lines.{characters_in, without_characters}
 use Rattle.redl_excerpts.specs.Phrases.{heard, kept_text, nothing_heard}
 use Rattle.redl_excerpts.specs.declared.detail.Detail.{Detail}
 use Rattle.redl_excerpts.specs.declared.last_word.LastWord.{LastWord}
+use Rattle.redl_places.specs.Places.{is_document}
+use Rattle.redl_places.specs.Texts.{place_text}
+use Rattle.redl_places.specs.declared.place.StoryPlace.{StoryPlace}
 use Rattle.redl_kinds.specs.KindNames.{kind_name}
 use Rattle.redl_kinds.specs.declared.rev_kind.RevKind.{RevKind}
 use Rattle.redl_kinds.specs.declared.rev_kind.RevKind.TheVariants.{Content, Move, Mark, Row as RowKind, Cell, Change}
@@ -88,6 +92,10 @@ unfoldable pub quoted : Row → List ℕ
 quoted row =
     masked Field (near_end row.detail.before) ++ (opening row.kind ++ (inside row.kind row.detail ++ (closing row.kind ++ (outside row.kind row.detail ++ masked Field (shortened 10 row.detail.after)))))
 
+-- where it is, with two spaces before that, unless it is in the document
+abbrev pub place_words : StoryPlace → List ℕ
+place_words place = if is_document place then [] else codes "  " ++ place_text place
+
 -- who said what, with two spaces before each
 abbrev pub said_text : LastWord → List ℕ
 said_text said = codes "  " ++ (masked Field said.reviewer ++ (codes ": " ++ word_text said.word))
@@ -99,4 +107,4 @@ says_text Accept says = []
 says_text Reject says = []
 
 unfoldable pub words_row : Row → List ℕ
-words_row row = words_columns row ++ (quoted row ++ (says_text row.verdict row.detail.says ++ newline))
+words_row row = words_columns row ++ (quoted row ++ (place_words row.detail.place ++ (says_text row.verdict row.detail.says ++ newline)))

@@ -13,6 +13,7 @@ use json::Writer;
 use redl_excerpts::LastWord;
 use redl_formats::{ItemText, put_date, put_number, put_text, verdict_name, word_name};
 use redl_io::Text;
+use redl_places::text_of;
 use std::alloc::AllocError;
 
 /// An object for each row, with its fields and its detail by their names.
@@ -41,9 +42,11 @@ fn full_row(piece: Vec<u8>, row: &Row) -> Result<Vec<u8>, AllocError>
     requires { IsRow row.now }
     ensures { IfOk result (λ more. more.items ≡ piece.items ++ full_row row.now) }
 {
+    let place = text_of(*piece.allocator(), row.detail.place)?;
     let mut object = Writer::new(piece);
     object.begin_object()?;
     put_front(&mut object, row)?;
+    put_text(&mut object, "place", place.as_bytes())?;
     put_says(&mut object, row.detail.says.words())?;
     put_text(&mut object, "verdict", verdict_name(row.verdict).as_bytes())?;
     put_text(&mut object, "words", row.detail.words.as_bytes())?;
@@ -51,7 +54,7 @@ fn full_row(piece: Vec<u8>, row: &Row) -> Result<Vec<u8>, AllocError>
     Ok(object.into_inner())
 }
 
-// Writes the members before the last words. `Err` means out of memory.
+// Writes the members before the place. `Err` means out of memory.
 fn put_front(object: &mut Writer, row: &Row) -> Result<(), AllocError>
     requires { IsRow row.now }
     ensures written { OnOk result (object.new.tokens ≡ object.old.tokens ++ front_tokens row.now) }
@@ -65,7 +68,7 @@ fn put_front(object: &mut Writer, row: &Row) -> Result<(), AllocError>
     Ok(())
 }
 
-// Writes the members between the changed properties and the last words. `Err` means out of memory.
+// Writes the members between the changed properties and the place. `Err` means out of memory.
 fn put_behind(object: &mut Writer, row: &Row) -> Result<(), AllocError>
     requires { IsRow row.now }
     ensures written { OnOk result (object.new.tokens ≡ object.old.tokens ++ behind_tokens row.now) }

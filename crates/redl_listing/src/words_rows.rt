@@ -5,13 +5,14 @@ ghost use Rattle.std.specs.List.{flat_map};
 ghost use Rattle.redl_listing.specs.Rows.{IsRow};
 ghost use Rattle.redl_terminal.specs.Masks.{masked};
 ghost use Rattle.redl_terminal.specs.declared.extent.Extent.TheVariants.{Field};
-ghost use Rattle.redl_listing.specs.Words.{closing, closing_of, in_places, inside, near_end, numbered_columns, opening, opening_of, outside, quoted, said_text, says_text, shortened, words_columns, words_row};
+ghost use Rattle.redl_listing.specs.Words.{closing, closing_of, in_places, inside, near_end, numbered_columns, opening, opening_of, outside, place_words, quoted, said_text, says_text, shortened, words_columns, words_row};
 
 use crate::row::Row;
 use redl_excerpts::{Detail, LastWord, Says, characters_in, shortened, without_characters};
 use redl_formats::{ItemText, push_left, push_number, push_spaces, verdict_name, word_name};
 use redl_join::Verdict;
 use redl_kinds::RevKind;
+use redl_places::{StoryPlace, text_of};
 use redl_terminal::{Extent, push_masked};
 use redl_tree::Trace;
 use std::alloc::{AllocError, Global};
@@ -22,7 +23,7 @@ const AUTHOR: usize = 13;
 // How many characters of what stands before are shown.
 const BEFORE: usize = 11;
 
-/// A line for each row: number, kind, verdict and author in columns, and its words in their paragraph.
+/// A line for each row: number, kind, verdict and author in columns, its words in their paragraph, and where it is outside the document.
 #[derive(Drop)]
 pub struct WordsRows;
 
@@ -55,6 +56,7 @@ fn push_words_row(line: &mut Vec<u8>, row: &Row) -> Result<(), AllocError>
 {
     push_words_columns(line, row)?;
     push_quoted(line, row)?;
+    push_place(line, row.detail.place)?;
     push_says(line, row.verdict, &row.detail.says)?;
     line.push(b'\n')?;
     Ok(())
@@ -159,6 +161,18 @@ fn push_shortened(line: &mut Vec<u8>, text: &[u8], room: u8) -> Result<(), Alloc
     let short = shortened(*line.allocator(), text, room)?;
     push_masked(line, Extent::Field, short.as_bytes())?;
     Ok(())
+}
+
+// Adds where a revision is, unless it is in the document. `Err` means out of memory.
+fn push_place(line: &mut Vec<u8>, place: StoryPlace) -> Result<(), AllocError>
+    ensures { OnOk result (line.new.items ≡ line.old.items ++ place_words place) }
+{
+    if place.is_document() {
+        return Ok(());
+    }
+    let text = text_of(*line.allocator(), place)?;
+    line.extend_from_slice(b"  ")?;
+    line.extend_from_slice(text.as_bytes())
 }
 
 // Adds who said what, where that is disputed. `Err` means out of memory.
