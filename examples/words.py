@@ -9,6 +9,7 @@ import re
 import sys
 
 import formats
+import places
 import reading
 import texts
 
@@ -155,6 +156,8 @@ def listed(package, entries, shown=None):
             inside = masked(formats.line(changed(package, number))) + end + masked(shortened(words, 30))
         quoted = masked(near_end(before)) + begin + inside + masked(shortened(after, 10))
         line = "%5d %-12s %-8s %-13s %s" % (number, revision.kind, verdict, shortened(masked(revision.author), 12), quoted)
+        place = places.place_of(package, number)
+        line += "" if place == "document" else "  " + place
         said = "".join("  %s: %s" % (masked(entry.reviewer), entry.word) for entry in says_of(number, entries))
         out.append(line + (said if verdict == "disputed" else "") + "\n")
     return "".join(out)
@@ -170,6 +173,7 @@ def full(package, entries):
         found = changed(package, row["number"])
         row["changed"] = (found or [])[: formats.MOST]
         row["changed_more"] = None if found is None else max(0, len(found) - formats.MOST)
+        row["place"] = places.place_of(package, row["number"])
         row["id"] = members[0].attribute("id") if members else None
         row["says"] = [{"reviewer": entry.reviewer, "word": entry.word} for entry in says_of(row["number"], entries)]
     rows = [dict(sorted(row.items())) for row in rows]
