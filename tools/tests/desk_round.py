@@ -145,13 +145,15 @@ def other_forms(driven):
 
 
 def formats(driven):
-    """What a change of format changes stands with it, as the example's listing has it."""
+    """What a change of format changes is with it, and where a change is that isn't in the document, as the example's listing has it."""
     it = Desk(driven)
     it.drop(("contract.xml", example("contract.xml")))
     it.step("standing")
     rows = it.run("return [...document.querySelectorAll('#tables tbody tr')].map((row) => [Number(row.cells[0].textContent), [...row.querySelectorAll('.changed li')].map((it) => it.textContent)])")
     listed = json.loads(example("contract.list.full"))
     same("what each change of format changes", [row for row in rows if row[1]], [[one["number"], [it["said"] for it in one["changed"]]] for one in listed if one["changed"]])
+    places = it.run("return [...document.querySelectorAll('#tables tbody tr')].map((row) => [Number(row.cells[0].textContent), row.querySelector('.place')?.textContent])")
+    same("where each change outside the document is", [row for row in places if row[1]], [[one["number"], one["place"]] for one in listed if one["place"] != "document"])
 
 
 def remains(driven):

@@ -67,6 +67,14 @@ function changedOf({ changed = [], changed_more: more = 0 }) {
 }
 
 /**
+ * Where a change is, if it is not in the document.
+ * @param {any} row
+ */
+function placeOf({ place = "document" }) {
+  return place === "document" ? [] : [make("p", { className: "place", textContent: place })];
+}
+
+/**
  * A change between the words around it.
  * @param {any} row
  */
@@ -75,7 +83,7 @@ function wordsOf(row) {
   const name = /ins$|move-to|mark-to/.test(kind) ? "ins" : /del$|move-from|mark-from/.test(kind) ? "del" : "mark";
   const sign = SIGNS[kind.split("-")[0]] ?? KINDS[kind];
   const context = (/** @type {string} */ text) => make("span", { className: "context", textContent: text });
-  return make("td", { className: "words", dir: "auto" }, context(wordsBefore(before)), make(name, { textContent: words.trim() ? words : sign }), context(wordsAfter(after)), ...changedOf(row));
+  return make("td", { className: "words", dir: "auto" }, context(wordsBefore(before)), make(name, { textContent: words.trim() ? words : sign }), context(wordsAfter(after)), ...changedOf(row), ...placeOf(row));
 }
 
 /**
