@@ -32,7 +32,7 @@ loop-excerpt-preserved c =
     let size : c.len.result ≡ length before = omega (arith, c.len.ensures, c.loop-excerpt.details.ok.0) in
     record {
       all = details-more before c.push.new.self.items (details_of c.args.excerpts.items places (words_on c.args.words.now)) (into_iter_items c.loop-excerpt.excerpt-iterator) rest places (words_on c.args.words.now) excerpt detail here
-          (c.in_ok-detail.ensures.value ∙ ap (λ p. detail_if excerpt p (map deref c.on-2.result.now)) c.on.ensures ∙ ap (detail_if excerpt (places (c.len.result + 1))) c.on-2.ensures
+          (c.in_ok-detail.ensures.value ∙ ap (λ p. detail_if excerpt p (map deref c.on-in-loop-excerpt.result.now)) c.on.ensures ∙ ap (detail_if excerpt (places (c.len.result + 1))) c.on-in-loop-excerpt.ensures
           ∙ ap (λ n. detail_if excerpt (places (n + 1)) (words_on c.args.words.now (n + 1))) size) c.in_ok-push.ensures.items c.loop-excerpt.invariant.all;
       utf8 = subst (All IsDetail) (sym c.in_ok-push.ensures.items) (All-push IsDetail before detail c.loop-excerpt.invariant.utf8 c.in_ok-detail.ensures.utf8);
       within = count-more before c.push.new.self.items _ rest excerpt detail (2 ^ 32) here c.in_ok-push.ensures.items c.loop-excerpt.invariant.within;
