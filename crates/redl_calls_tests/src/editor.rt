@@ -4,10 +4,13 @@
 //! Bodies, leaves and what is wanted are outlines. The wanted ones follow from ECMA-376 Part 1, 17.13.5.
 
 use crate::live_session::session_over;
-use redl_editor::Editor;
+use redl_editor::{Editor, story_number};
 use redl_io::MemSink;
 use redl_live_session::LiveSession;
-use redl_outline::{document_package, entries_of, nodes_text, outline_text};
+use redl_opc::Package;
+use redl_outline::{
+    document, document_package, entries_of, nodes_text, outline_text, package, part,
+};
 use redl_session::Locks;
 use std::alloc::{AllocError, Global};
 use std::test::Fail;
@@ -146,6 +149,28 @@ fn neighbours_that_are_kept_as_text_are_leaves(rt: HostRuntime) -> Result<(), Fa
     for row in ROWS {
         let got = follows(rt.alloc(), row)?;
         assert!(rt; got == (true, true, true), "{}: {got:?}", row.0);
+    }
+    Ok(())
+}
+
+// The package with two stories, and a part that is none before each of them.
+fn two_stories(alloc: Global) -> Result<String, AllocError> {
+    let mut parts = String::new(alloc);
+    parts.push_str(part(alloc, "/a", "<a/>")?.as_str())?;
+    parts.push_str(part(alloc, "/d", document(alloc, "<w:p/>")?.as_str())?.as_str())?;
+    parts.push_str(part(alloc, "/b", "<b/>")?.as_str())?;
+    parts.push_str(part(alloc, "/h", "<w:hdr><w:p/></w:hdr>")?.as_str())?;
+    package(alloc, parts.as_str())
+}
+
+#[test]
+fn stories_are_numbered_in_the_order_of_the_parts(rt: HostRuntime) -> Result<(), Fail> {
+    let alloc = rt.alloc();
+    let text = two_stories(alloc)?;
+    let pkg = Package::make(alloc, redl_xml::read(alloc, text.as_bytes())?)?;
+    for (part, number) in [(0, None), (1, Some(0)), (2, None), (3, Some(1)), (4, None)] {
+        let got = story_number(&pkg, part);
+        assert!(rt; got == number, "{part}: {got:?}");
     }
     Ok(())
 }

@@ -15,3 +15,4 @@ pub mod FindLaws
 pub mod WriteLaws
 pub mod DocumentLaws
 pub mod ElsewhereLaws
+pub mod PartLaws

@@ -7,4 +7,5 @@ pub mod Kept
 pub mod Costs
 pub mod Documents
 pub mod Elsewhere
+pub mod Parts
 pub mod Inside

@@ -110,7 +110,7 @@ impl<'a> Editor<'a> {
         ensures untouched { OnErr result (self.new ≡ self.old) }
         ensures own { say_of self.old.says rev ≡ say → IsOk result }
 
-        // A leaf without a member or a marker of the revision stays as it was.
+        // A leaf without a member or a marker of the revision stays as it was, unless something round it goes or lives again.
         ensures elsewhere { OnOk result (StaysElsewhere (λ n. n == rev) self.old self.new) }
     {
         self.set_many(&[Change { rev, say }])
@@ -127,7 +127,7 @@ impl<'a> Editor<'a> {
         // Where all of it is said already it takes no memory.
         ensures own { former_of self.old.says (map setting_of changes.now) ≡ [] → IsOk result }
 
-        // A leaf without a member or a marker of a revision of which something else is said then stays as it was.
+        // So does a leaf without a member or a marker of a revision of which something else is said then.
         ensures elsewhere { OnOk result (StaysElsewhere (is_changed self.old.says self.new.says) self.old self.new) }
     {
         self.set_many_uncounted::<Brand>(changes, Blank::new(1))
@@ -182,6 +182,7 @@ impl<'a> Editor<'a> {
     {
         write_package(&self.nodes, &self.stories, out)
     }
+
     // The same as `set_many`, with a counter by this blank, which nobody reads.
     fn set_many_uncounted<L: Ledger>(
         &mut self,

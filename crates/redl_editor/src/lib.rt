@@ -11,6 +11,7 @@ mod editor;
 mod finding;
 mod holding;
 mod making;
+mod numbering;
 mod places;
 mod story;
 mod table;
@@ -21,3 +22,4 @@ mod writing;
 
 pub use changing::Change;
 pub use editor::Editor;
+pub use numbering::story_number;
