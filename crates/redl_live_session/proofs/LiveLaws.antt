@@ -1,7 +1,10 @@
 -- The invariant of a session with an editor, after entries.
-use Rattle.std.proofs.Common.{◌≡◌, ◌∙◌, sym, ap, subst, ℕ, zero, suc, ◌-◌, ◌<◌, ◌≤◌, true, List, [], None, replicate, set, length, arith}
+use Rattle.std.proofs.Common.{◌≡◌, ◌∙◌, refl, sym, ap, subst, ℕ, zero, suc, ◌-◌, ◌<◌, ◌≤◌, true, List, [], None, replicate, set, length, arith}
 use Rattle.std.specs.Prelude.{not}
 use Rattle.std.proofs.lemmas.Bool.{not-true}
+use Rattle.redl_editor.proofs.CountLaws.{none-counted}
+use Rattle.redl_editor.specs.Changes.{is_changed}
+use Rattle.redl_editor.specs.Costs.{AreCounted, parts_cost}
 use Rattle.redl_editor.specs.Documents.{Document}
 use Rattle.redl_index.specs.Numbers.{numbered_package}
 use Rattle.redl_index.specs.declared.revision.Revision.{Revision}
@@ -12,12 +15,14 @@ use Rattle.redl_join.specs.Verdicts.{verdict_at}
 use Rattle.redl_journal.proofs.EntryOrder.{entry_order-total}
 use Rattle.redl_journal.specs.declared.entry.Entry.{Entry}
 use Rattle.redl_live_session.specs.Consistency.{IsConsistent}
+use Rattle.redl_live_session.specs.Costs.{IsCounted, entry_cost}
 use Rattle.redl_rules.specs.Attributes.{broken_rule}
 use Rattle.redl_kinds.specs.declared.lock.Lock.{Lock}
 use Rattle.redl_session.proofs.SaysLaws.{says_of-none, says_of-with}
-use Rattle.redl_session.specs.Refusals.{admitted}
+use Rattle.redl_session.specs.Refusals.{admitted, cause_of}
 use Rattle.redl_session.specs.Says.{say_of_verdict, says_of}
-use Rattle.redl_session.specs.Sessions.{SessionState}
+use Rattle.redl_session.specs.Sessions.{SessionState, after_entry, says}
+use Rattle.redl_tree.specs.Decisions.Packages.{stories}
 use Rattle.redl_tree.specs.Leaves.Settings.{set_say}
 use Rattle.redl_tree.specs.Model.Nodes.{Nodes}
 use Rattle.redl_tree.specs.declared.kinds.Say.{Say}
@@ -73,6 +78,40 @@ live-with old new revisions book later entry say kept some within is said made =
     subst (λ (d : Document). IsConsistent d.nodes revisions later d.says) (sym made)
     (subst (λ (s : List Say). IsConsistent old.nodes revisions later s) (set-is old.says entry.rev say some)
     (consistent-with old.nodes revisions book later old.says entry say kept some within is said))
+
+-- its says are those of the book that has the entry
+says-with : (old : Document) (revisions : List Revision) (book later : List Entry) (entry : Entry) (say : Say)
+    → IsConsistent old.nodes revisions book old.says → 0 < entry.rev → entry.rev ≤ length revisions
+    → later ≡ with_entry book entry → say ≡ say_of_verdict (verdict_at later entry.rev) → set_say old.says entry.rev say ≡ says_of later (length revisions)
+says-with old revisions book later entry say kept some within is said =
+    sym (set-is old.says entry.rev say some) ∙ (consistent-with old.nodes revisions book later old.says entry say kept some within is said).decided
+
+-- what setting the say of its revision may cost
+pub live-cost : (old : Document) (revisions : List Revision) (locks : List Lock) (book later : List Entry) (entry : Entry) (say : Say)
+    → IsConsistent old.nodes revisions book old.says → 0 < entry.rev → entry.rev ≤ length revisions
+    → later ≡ with_entry book entry → say ≡ say_of_verdict (verdict_at later entry.rev) → cause_of revisions locks entry ≡ None
+    → parts_cost (is_changed old.says (set_say old.says entry.rev say)) (stories old.nodes) ≡ entry_cost (state_of old revisions locks book) entry
+live-cost old revisions locks book later entry say kept some within is said free =
+    let state = state_of old revisions locks book in
+    let cost : List Say → List Say → ℕ = λ before after. parts_cost (is_changed before after) (stories old.nodes) in
+    let taken : after_entry state entry ≡ record state { book = with_entry book entry } = rw free refl in
+    ap (λ (s : List Say). cost s (set_say old.says entry.rev say)) kept.decided
+    ∙ ap (cost (says state)) (says-with old revisions book later entry say kept some within is said ∙ ap (λ (b : List Entry). says_of b (length revisions)) is)
+    ∙ ap (λ (s : SessionState). cost (says state) (says s)) (sym taken)
+
+-- what was counted for it
+pub live-counted : (old new : Document) (revisions : List Revision) (locks : List Lock) (book later : List Entry) (before after : ℕ)
+    → IsConsistent old.nodes revisions book old.says → IsConsistent new.nodes revisions later new.says
+    → AreCounted (is_changed old.says new.says) new.says before after (stories old.nodes)
+    → IsCounted (state_of old revisions locks book) (state_of new revisions locks later) before after
+live-counted old new revisions locks book later before after kept now counted =
+    subst (λ (s : List Say). AreCounted (is_changed s (says_of later (length revisions))) (says_of later (length revisions)) before after (stories old.nodes)) kept.decided
+    (subst (λ (s : List Say). AreCounted (is_changed old.says s) s before after (stories old.nodes)) now.decided counted)
+
+-- nothing has to be counted where nothing changes
+pub same-counted : (before after : ℕ) (old new : SessionState) → new ≡ old → IsCounted old new before after
+same-counted before after old new same =
+    subst (λ (s : SessionState). IsCounted old s before after) (sym same) (none-counted (says old) before after (stories old.nodes))
 
 -- an entry that was new, and was removed again
 pub book-back : (book added removed : List Entry) (entry : Entry) → added ≡ with_entry book entry → true ≡ not (has_entry book entry)

@@ -1,12 +1,13 @@
 //! Sessions with an editor.
 
-ghost use Rattle.std.specs.Prelude.{◌≡◌, [], None, All, true, length, map, IfOk, IfErr, OnOk, OnErr, if◌then◌else◌};
+ghost use Rattle.std.specs.Prelude.{◌≡◌, ◌<◌, ◌≤◌, ◌+◌, [], None, All, true, length, map, IfOk, IfErr, OnOk, OnErr, if◌then◌else◌};
 ghost use Rattle.redl_index.specs.Numbers.{numbered_package};
 ghost use Rattle.redl_index.specs.Revisions.{revisions_of};
 ghost use Rattle.redl_io.specs.Sink.{Puts};
 ghost use Rattle.redl_join.specs.Books.{has_entry, union, with_entry};
 ghost use Rattle.redl_join.specs.Verdicts.{verdict_at};
 ghost use Rattle.redl_journal.specs.Journals.{IsAllowed};
+ghost use Rattle.redl_live_session.specs.Costs.{IsCounted, entry_cost};
 ghost use Rattle.redl_rules.specs.Attributes.{broken_rule};
 ghost use Rattle.redl_session.specs.Refusals.{IsCause, admitted, cause_of, refusals};
 ghost use Rattle.redl_session.specs.Says.{verdicts_of};
@@ -23,9 +24,11 @@ use redl_io::{Failed, Sink};
 use redl_join::{Book, Verdict};
 use redl_journal::Entry;
 use redl_opc::Package;
+use redl_resolve::Steps;
 use redl_session::{AdmitError, Locks, Refusal, Taken, add_copy, cause, say_of, take_in, verdicts};
 use std::alloc::{AllocError, Global};
-use std::marker::Model;
+use std::marker::{Brand, Model};
+use std::sync::ledger::{Blank, Ledger};
 
 /// A sound package, its revisions, the locks, and the book of the entries that were admitted. Contracts see these four, as of a
 /// `Session`. The say of each revision in the editor is always that of the book's verdict.
@@ -95,13 +98,40 @@ impl<'a> LiveSession<'a> {
         ensures returned { IfErr result (λ refusal. refusal.entry ≡ entry) }
         ensures untouched { OnErr result (self.new ≡ self.old) }
     {
+        self.admit_uncounted::<Brand>(entry, Blank::new(1))
+    }
+
+    /// The same as `admit`, with the steps of the editor counted.
+    pub fn admit_counted<L: Ledger>(
+        &mut self,
+        entry: Entry,
+        steps: &mut Steps<L>,
+    ) -> Result<Taken, Refusal>
+        requires { IsAllowed entry }
+        ensures admitted { OnOk result (cause_of self.old.revisions self.old.locks entry ≡ None) }
+        ensures taken { OnOk result (self.new ≡ record self.old { book = with_entry self.old.book entry }) }
+        ensures was_new { IfOk result (λ taken. taken ≡ (if has_entry self.old.book entry then Repeat else New)) }
+        ensures repeat { result ≡ Ok Repeat → self.new ≡ self.old }
+
+        // At most the sizes of the leaves that its revision touches, where that gets another say, and the lengths of their paths, also
+        // with a refusal.
+        ensures steps { steps.new ≤ steps.old + entry_cost self.old entry }
+
+        // At least as many as each of these leaves has nodes then.
+        ensures counted { OnOk result (IsCounted self.old self.new steps.old steps.new) }
+
+        // A refusal
+        ensures cause { IfErr result (λ refusal. IsCause refusal.why (cause_of self.old.revisions self.old.locks entry)) }
+        ensures returned { IfErr result (λ refusal. refusal.entry ≡ entry) }
+        ensures untouched { OnErr result (self.new ≡ self.old) }
+    {
         if let Some(why) = cause(&self.index, &self.locks, &entry) {
             return Err(Refusal { entry, why });
         }
         match add_copy(self.alloc, &mut self.book, &entry) {
             Ok(true) => {
                 let say = say_of(self.book.verdict(entry.rev));
-                match self.editor.set(entry.rev, say) {
+                match self.editor.set_counted(entry.rev, say, steps) {
                     Ok(()) => Ok(Taken::New),
                     Err(_) => {
                         self.book.remove(&entry);
@@ -184,5 +214,22 @@ impl<'a> LiveSession<'a> {
         ensures soundness { broken_rule (pass_package (says self.now) self.now.nodes) ≡ None }
     {
         self.editor.write(out)
+    }
+
+    // The same as `admit`, with a counter by this blank, which nobody reads.
+    fn admit_uncounted<L: Ledger>(&mut self, entry: Entry, blank: Blank) -> Result<Taken, Refusal>
+        requires name { blank.name ≡ L.name }
+        requires parts { blank.parts ≡ L.parts }
+        requires some { 0 < L.parts }
+        requires allowed { IsAllowed entry }
+        ensures admitted { OnOk result (cause_of self.old.revisions self.old.locks entry ≡ None) }
+        ensures taken { OnOk result (self.new ≡ record self.old { book = with_entry self.old.book entry }) }
+        ensures was_new { IfOk result (λ taken. taken ≡ (if has_entry self.old.book entry then Repeat else New)) }
+        ensures repeat { result ≡ Ok Repeat → self.new ≡ self.old }
+        ensures cause { IfErr result (λ refusal. IsCause refusal.why (cause_of self.old.revisions self.old.locks entry)) }
+        ensures returned { IfErr result (λ refusal. refusal.entry ≡ entry) }
+        ensures untouched { OnErr result (self.new ≡ self.old) }
+    {
+        self.admit_counted(entry, &mut Steps::<L>::new(blank))
     }
 }
