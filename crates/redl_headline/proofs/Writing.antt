@@ -33,6 +33,8 @@ use Rattle.redl_outcome.proofs.LeftLaws.{is_made, sound_package}
 use Rattle.redl_outcome.specs.Answers.{IsAnswer, IsWritten, OfOutcome, Writes}
 use Rattle.redl_outcome.specs.Brought.{Brought}
 use Rattle.redl_outcome.specs.Outcome.{outcome, writing_of}
+use Rattle.redl_reread_sound.proofs.Again.{reread}
+use Rattle.redl_rounds_sound.proofs.Packages.{reads_package}
 use Rattle.redl_rules.specs.Attributes.{declares, has_id}
 use Rattle.redl_session.specs.Refusals.{cause_of, refusals, refused}
 use Rattle.redl_session.specs.declared.refusal.AdmitError.{AdmitError}
@@ -92,6 +94,7 @@ is_writing reader files p locks journals writing is made =
       marked = kept_stay attribute_value says (numbered_package read.x) (numbered-indexed attribute_value read.x);
       members = members_stay attribute_value has_id declares says (numbered_package read.x) numbered.indexed numbered.sound;
       decided = decided_go attribute_value says (numbered_package read.x) numbered.indexed;
+      again = reread file.x read.x says (reads_package reader file.x read.x is read.first) (sound_package reader file.x read.x read.first);
       status = ap (λ (w : Writing). (outcome_of (Ok w)).status) (sym same)
           ∙ ap written_status (append-nil (with_refusals [] (refusals (revisions_of read.x) locks entries.x)))
           ∙ same_status (revisions_of read.x) locks entries.x;

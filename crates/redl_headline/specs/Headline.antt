@@ -11,6 +11,8 @@ use Rattle.redl_kinds.specs.declared.lock.Lock.{Lock}
 use Rattle.redl_lines.specs.declared.status.Status.{Status}
 use Rattle.redl_lines.specs.declared.status.Status.TheVariants.{Done, Refused}
 use Rattle.redl_opc.specs.Shape.{refusal}
+use Rattle.redl_reread_sound.specs.Again.{IsReread}
+use Rattle.redl_reread_sound.specs.Together.{meet_well}
 use Rattle.redl_rules.specs.Attributes.{rules}
 use Rattle.redl_session.specs.Refusals.{admitted, refused}
 use Rattle.redl_session.specs.Says.{says_of}
@@ -79,6 +81,8 @@ pub record IsWriting (files : Files) (p : List ℕ) (locks : List Lock) (journal
   -- and no member or marker of a revision that is decided
   pub decided : map (decided_among (verdicts nodes locks entries)) (stories (pass_package (verdicts nodes locks entries) (numbered_package nodes)))
       ≡ map (λ _. []) (stories (numbered_package nodes))
+  -- where no stretches that meet form `]]>`, it is read again as a sound package of the same shape, with no more nodes
+  pub again : meet_well (pass_package (verdicts nodes locks entries) (numbered_package nodes)) ≡ true → IsReread (verdicts nodes locks entries) nodes
   -- an entry is refused where it is on a revision that is held or not there
   pub status : ended ≡ status_of (refused (revisions_of nodes) locks entries)
 
