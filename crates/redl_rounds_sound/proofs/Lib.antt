@@ -6,3 +6,4 @@ pub mod Bounds
 pub mod Packages
 pub mod Mapped
 pub mod Resumed
+pub mod Second

@@ -57,7 +57,7 @@ entry_writable reader files document names entry is of =
 
 -- ---- a file with the text of a journal
 
-reads_file : (files : Files) (name text : List ℕ) (most : ℕ) (limit : Limit) → files name ≡ Some text → length text ≤ most → file files name most limit ≡ Ok text
+pub reads_file : (files : Files) (name text : List ℕ) (most : ℕ) (limit : Limit) → files name ≡ Some text → length text ≤ most → file files name most limit ≡ Ok text
 reads_file files name text most limit is short =
     ap (λ found. held name found >>= within most limit) is ∙ cond-false (nat_lt most (length text)) _ _ (le-ltb most (length text) short)
 

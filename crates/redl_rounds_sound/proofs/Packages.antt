@@ -56,6 +56,10 @@ package-read reader whole nodes made =
 pub reads_package : (reader : Reader) (whole : List ℕ) (nodes : Nodes) → IsReader reader → package_in reader whole ≡ Ok nodes → IsReading whole nodes
 reads_package reader whole nodes is made = subst (λ o. IsTreeOf whole o) (package-read reader whole nodes made).found_is (is.trees whole)
 
+-- it has no more nodes than a package may have
+pub nodes-few : (reader : Reader) (whole : List ℕ) (nodes : Nodes) → package_in reader whole ≡ Ok nodes → count nodes ≤ node_limit
+nodes-few reader whole nodes made = (package-read reader whole nodes made).few
+
 -- its revisions have numbers of 32 bits
 pub revisions-few : (reader : Reader) (whole : List ℕ) (nodes : Nodes) → IsReader reader → package_in reader whole ≡ Ok nodes → package_revisions nodes < 4294967295
 revisions-few reader whole nodes is made =

@@ -4,6 +4,7 @@ ghost use Rattle.redl_inputs.specs.Readers.{Reader, IsReader};
 ghost use Rattle.redl_io.specs.Shelf.{Files};
 ghost use Rattle.redl_outcome.specs.Brought.{Brought};
 ghost use Rattle.redl_rounds_sound.specs.Rounds.{AlikeIsSettled, JoinedStandFor, ResumedStandsFor};
+ghost use Rattle.redl_rounds_sound.specs.Second.{LeftIsTakenAgain};
 
 /// A joined journal stands for those that it joins.
 ///
@@ -24,4 +25,12 @@ pub fn resumed_stands_for()
 /// Journals that accept every revision, or reject every one, stand for `settle`: what is written has the same bytes.
 pub fn alike_is_settled()
     ensures { (reader : Reader) → IsReader reader → (files : Files) (brought : Brought) → AlikeIsSettled reader files brought }
+{}
+
+/// What `settle` or `write` wrote of a package is a package again, so `check` takes it, and a second round can begin.
+///
+/// That is so unless stretches that meet form `]]>`, or what was written is deeper or longer than a package may be. `check` of the file has
+/// status 0, and tells how many revisions what was left has.
+pub fn left_is_taken_again()
+    ensures { (reader : Reader) → IsReader reader → (files : Files) (brought : Brought) → LeftIsTakenAgain reader files brought }
 {}
