@@ -7,3 +7,5 @@ pub mod Packages
 pub mod Mapped
 pub mod Resumed
 pub mod Second
+pub mod EmptyMoves
+pub mod Settled

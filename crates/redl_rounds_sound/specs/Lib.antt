@@ -1,3 +1,4 @@
 pub mod Files
 pub mod Rounds
 pub mod Second
+pub mod Settled

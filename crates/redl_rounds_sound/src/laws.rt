@@ -5,6 +5,7 @@ ghost use Rattle.redl_io.specs.Shelf.{Files};
 ghost use Rattle.redl_outcome.specs.Brought.{Brought};
 ghost use Rattle.redl_rounds_sound.specs.Rounds.{AlikeIsSettled, JoinedStandFor, ResumedStandsFor};
 ghost use Rattle.redl_rounds_sound.specs.Second.{LeftIsTakenAgain};
+ghost use Rattle.redl_rounds_sound.specs.Settled.{OnlyEmptyMoves, SettledIsCounted};
 
 /// A joined journal stands for those that it joins.
 ///
@@ -33,4 +34,10 @@ pub fn alike_is_settled()
 /// status 0, and tells how many revisions what was left has.
 pub fn left_is_taken_again()
     ensures { (reader : Reader) → IsReader reader → (files : Files) (brought : Brought) → LeftIsTakenAgain reader files brought }
+{}
+
+/// What `check` counts after `settle` are moves without members: range markers that pair only when all around them is settled.
+pub fn settled_is_counted()
+    ensures left { OnlyEmptyMoves }
+    ensures call { (reader : Reader) (files : Files) (brought : Brought) → SettledIsCounted reader files brought }
 {}
