@@ -9,3 +9,4 @@ pub mod Resumed
 pub mod Second
 pub mod EmptyMoves
 pub mod Settled
+pub mod Orders

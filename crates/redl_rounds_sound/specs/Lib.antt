@@ -2,3 +2,4 @@ pub mod Files
 pub mod Rounds
 pub mod Second
 pub mod Settled
+pub mod Orders

@@ -3,6 +3,7 @@
 ghost use Rattle.redl_inputs.specs.Readers.{Reader, IsReader};
 ghost use Rattle.redl_io.specs.Shelf.{Files};
 ghost use Rattle.redl_outcome.specs.Brought.{Brought};
+ghost use Rattle.redl_rounds_sound.specs.Orders.{OrderIsFree};
 ghost use Rattle.redl_rounds_sound.specs.Rounds.{AlikeIsSettled, JoinedStandFor, ResumedStandsFor};
 ghost use Rattle.redl_rounds_sound.specs.Second.{LeftIsTakenAgain};
 ghost use Rattle.redl_rounds_sound.specs.Settled.{OnlyEmptyMoves, SettledIsCounted};
@@ -40,4 +41,12 @@ pub fn left_is_taken_again()
 pub fn settled_is_counted()
     ensures left { OnlyEmptyMoves }
     ensures call { (reader : Reader) (files : Files) (brought : Brought) → SettledIsCounted reader files brought }
+{}
+
+/// The order of journals and repeats do not count, and so do not decide whether a call is written.
+///
+/// Where a call is written, the same command with its journals in another order or with repeats comes to the same, if these are within
+/// the limit of journal bytes.
+pub fn order_is_free()
+    ensures { (reader : Reader) (files : Files) (brought : Brought) → OrderIsFree reader files brought }
 {}
