@@ -1,22 +1,27 @@
 #!/usr/bin/env python3
 """Tests tools/web/lower32 on each form of instruction that it changes or passes on: the same calls before and after.
 
-    desk_lower.py NODE
+    desk_lower.py NODE [REDLINE.WASM]
 
-A module is made of assembler by the kit's clang: each load and store of numbers and vectors, copying, filling, growing, tables,
-branches, constants. Node runs it with a memory of 64 bits and lowered, and each call has to come to the same value or trap in
-both. It needs a node with --experimental-wasm-memory64.
+A module is made of assembler by the kit's clang: each load and store of numbers and vectors, copying, filling, growing, branches,
+constants. Node runs it with a memory of 64 bits and lowered, and each call has to come to the same value or trap in both. It needs
+a node with --experimental-wasm-memory64. Such a node runs no table with places of 64 bits: calls through a table are made in the
+lowered module alone, against values worked out by hand. Where the program is named, each form that it has must be among these.
 """
+import importlib.machinery
+import json
 import os
 import subprocess
 import sys
 import tempfile
+import types
 
 HERE = os.path.dirname(os.path.abspath(__file__))
 WEB = os.path.join(os.path.dirname(os.path.dirname(HERE)), "tools", "web")
 sys.dont_write_bytecode = True
 sys.path.insert(0, WEB)
 import kit
+import wasm
 
 TARGET = ["--target=wasm64-unknown-unknown", "-mcpu=mvp", "-msign-ext", "-msimd128", "-mbulk-memory", "-mnontrapping-fptoint", "--no-default-config"]
 # (the assembler's own check takes addresses of vectors for 32 bits)
@@ -106,23 +111,68 @@ def add_others(made):
     made.add("signs", 1, signs, [["255n"], ["-1n"], ["8n"], ["4294967295n"]])
 
 
+# Two functions that are called through a table: by their addresses, and by a place in it.
+TABLE = """
+	.type more,@function
+more:
+	.functype more (i64) -> (i64)
+	local.get 0
+	i64.const 1
+	i64.add
+	end_function
+	.type twice,@function
+twice:
+	.functype twice (i64) -> (i64)
+	local.get 0
+	local.get 0
+	i64.add
+	end_function
+	.globl pick
+	.type pick,@function
+pick:
+	.functype pick (i64, i64) -> (i64)
+	local.get 1
+	i64.const more
+	i64.const twice
+	local.get 0
+	i32.wrap_i64
+	i64.select
+	call_indirect (i64) -> (i64)
+	end_function
+	.globl at
+	.type at,@function
+at:
+	.functype at (i64, i64) -> (i64)
+	local.get 1
+	local.get 0
+	call_indirect (i64) -> (i64)
+	end_function
+"""
+# The table begins at its place 1.
+CALLED = [("pick", 1, 20, "21"), ("pick", 0, 20, "40"), ("at", 0, 5, "a trap"), ("at", 1, 5, "6"), ("at", 2, 5, "10"), ("at", 9, 5, "a trap")]
+
+
 def source(made):
     data = ["\t.int8 %d" % ((it * 37 + 11) % 256) for it in range(2048)]
     return "\n".join(made.text + ["\t.section .data.some,\"\",@", "some:"] + data + ["\t.size some, 2048", ""])
 
 
-def build(folder, made):
-    """The module for 64 bits and the lowered one."""
+def assemble(folder, name, text, exports):
+    """The module of this text for 64 bits, and the lowered one: its path."""
     home = kit.find_kit()
-    text, linker = os.path.join(folder, "forms.s"), os.path.join(folder, "wasm-ld")
-    with open(text, "w", encoding="utf-8") as file:
-        file.write(source(made))
-    os.symlink(os.path.realpath(kit.tool(home, "clang")), linker)
-    run = lambda *words: subprocess.run(words, check=True, cwd=folder)
-    run(kit.tool(home, "clang"), *TARGET, "-c", text, "-o", "forms.o")
-    exports = ["--export=" + name for name in made.names]
-    run(linker, "-m", "wasm64", "--no-entry", *exports, "--no-gc-sections", "--global-base=1000", "--initial-memory=131072", "--max-memory=1310720", "-z", "stack-size=0", "-o", "64.wasm", "forms.o")
-    run(os.path.join(WEB, "lower32"), "64.wasm", "32.wasm")
+    path = lambda ending: os.path.join(folder, name + ending)
+    with open(path(".s"), "w", encoding="utf-8") as file:
+        file.write(text)
+    linker = os.path.join(folder, "wasm-ld")
+    if not os.path.lexists(linker):
+        os.symlink(os.path.realpath(kit.tool(home, "clang")), linker)
+    run = lambda *words: subprocess.run(words, check=True)
+    run(kit.tool(home, "clang"), *TARGET, "-c", path(".s"), "-o", path(".o"))
+    exported = ["--export=" + it for it in exports]
+    places = ["--global-base=1000", "--initial-memory=131072", "--max-memory=1310720", "-z", "stack-size=0"]
+    run(linker, "-m", "wasm64", "--no-entry", *exported, "--no-gc-sections", *places, "-o", path(".64.wasm"), path(".o"))
+    run(os.path.join(WEB, "lower32"), path(".64.wasm"), path(".32.wasm"))
+    return path(".32.wasm")
 
 
 RUN = """
@@ -150,17 +200,66 @@ process.exitCode = differ ? 1 : 0;
 """
 
 
+RUN_TABLE = """
+const { exports } = new WebAssembly.Instance(new WebAssembly.Module(require("fs").readFileSync(process.argv[1])));
+const answer = (name, words) => {
+  try {
+    return String(exports[name](...words.map(BigInt)));
+  } catch (error) {
+    return error instanceof WebAssembly.RuntimeError ? "a trap" : String(error);
+  }
+};
+for (const [name, one, other, wanted] of JSON.parse(process.argv[2])) {
+  const came = answer(name, [one, other]);
+  if (came !== wanted) console.log("%s(%d, %d) through the table: %s and not %s", name, one, other, came, wanted), (process.exitCode = 1);
+}
+"""
+
+
+def load_lower32():
+    lower32 = types.ModuleType("lower32")
+    lower32.__file__ = os.path.join(WEB, "lower32")
+    importlib.machinery.SourceFileLoader("lower32", lower32.__file__).exec_module(lower32)
+    return lower32
+
+
+def forms_of(lower32, body):
+    """The forms of a body's instructions: one that is changed is a form by itself; others are one where as much follows their code."""
+    while body.at < len(body.body):
+        code = body.body[body.at]
+        form, at = body.read_form()
+        name = body.body[body.at : at].hex()
+        yield name if form.before or form.behind else (code == lower32.BR_TABLE or form.numbers, form.more)
+        body.instruction()
+
+
+def forms_in(path):
+    """The forms of the instructions of a module."""
+    lower32, found = load_lower32(), set()
+    with open(path, "rb") as file:
+        sections = dict(wasm.sections_of(file.read()))
+    count, at = wasm.number(sections[lower32.CODE], 0)
+    for _ in range(count):
+        size, at = wasm.number(sections[lower32.CODE], at)
+        found.update(forms_of(lower32, lower32.Body(sections[lower32.CODE][at : at + size], 0)))
+        at += size
+    return found
+
+
 def main():
     made = Functions()
     for add in (add_numbers, add_vectors, add_memory, add_others):
         add(made)
-    import json
-
     with tempfile.TemporaryDirectory() as folder:
-        build(folder, made)
-        files = [os.path.join(folder, name) for name in ("64.wasm", "32.wasm")]
+        lowered = assemble(folder, "forms", source(made), made.names)
+        table = assemble(folder, "table", TABLE, ["pick", "at"])
+        files = [lowered.replace(".32.", ".64."), lowered]
         ended = subprocess.run([sys.argv[1], "--experimental-wasm-memory64", "-e", RUN, *files], input=json.dumps(made.calls).encode(), check=False, timeout=500)
-    return ended.returncode
+        called = subprocess.run([sys.argv[1], "-e", RUN_TABLE, table, json.dumps(CALLED)], check=False, timeout=500)
+        untested = [forms_in(it) - forms_in(lowered) - forms_in(table) for it in sys.argv[2:]]
+    for it in untested:
+        print("%d forms of the program's instructions are not tested: %s" % (len(it), sorted(map(str, it))))
+    return ended.returncode or called.returncode or int(any(untested))
 
 
 if __name__ == "__main__":
