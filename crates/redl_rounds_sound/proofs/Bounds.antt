@@ -1,7 +1,7 @@
 -- The number on each element of a numbered package, and of what a pass leaves of it, is at most that of the last revision.
 use Rattle.std.proofs.Common.{◌≡◌, ℕ, ◌+◌, ◌<◌, ◌≤◌, List, [], ◌∷◌, ◌++◌, Bool, true, false, Option, None, Some, unwrap_or, refl, sym, subst, arith, codes, ◌==◌, if◌then◌else◌}
 use Rattle.redl_reread_sound.proofs.Scoped.{NoneDeclare, StoriesDeclare, all-package}
-use Rattle.redl_reread_sound.specs.Scopes.{EachIn}
+use Rattle.redl_reread_sound.specs.Each.{EachIn}
 use Rattle.redl_stamp.specs.Attribute.{attribute_value}
 use Rattle.redl_index.proofs.RevisionLaws.{next-revisions}
 use Rattle.redl_index.specs.Numbers.{numbered_package, package_revisions}
@@ -33,7 +33,23 @@ IsBelow n s tag = tag.rev < n
 
 -- the number of each element is below this one
 abbrev pub AreBelow : ℕ → Nodes → Type 0
-AreBelow n nodes = EachIn same_scope (IsBelow n) tt nodes
+AreBelow n no_nodes = Unit {0}
+AreBelow n (bytes b rest) = AreBelow n rest
+AreBelow n (element tag kids rest) = IsBelow n tt tag × AreBelow n kids × AreBelow n rest
+
+-- that is what holds of each tag, where nothing is asked of stretches and of how elements are closed
+abbrev EachBelow : ℕ → Nodes → Type 0
+EachBelow n nodes = EachIn same_scope (IsBelow n) (λ b. Unit {0}) (λ close kids. Unit {0}) tt nodes
+
+each-below : (n : ℕ) (nodes : Nodes) → AreBelow n nodes → EachBelow n nodes
+each-below n no_nodes h = tt
+each-below n (bytes b rest) h = (tt, each-below n rest h)
+each-below n (element tag kids rest) h = (h.0, tt, each-below n kids h.1, each-below n rest h.2)
+
+below-each : (n : ℕ) (nodes : Nodes) → EachBelow n nodes → AreBelow n nodes
+below-each n no_nodes h = tt
+below-each n (bytes b rest) h = below-each n rest h.1
+below-each n (element tag kids rest) h = (h.0, below-each n kids h.2, below-each n rest h.3)
 
 below-more : (n m : ℕ) (nodes : Nodes) → n ≤ m → AreBelow n nodes → AreBelow m nodes
 below-more n m no_nodes more h = tt
@@ -223,4 +239,6 @@ live-below n s tag h = at (is "delText" tag) (is "delInstrText" tag)
 -- a pass brings no numbers
 pub passed-below : (n : ℕ) (says : List Say) (nodes : Nodes) → AreBelow n nodes → AreBelow n (pass_package says nodes)
 passed-below n says nodes h =
-    all-package (Unit {0}) same_scope (IsBelow n) none (λ tail e s. refl) (live-below n) (λ s tag close below. below) says tt nodes (stories-declare (stories nodes)) h
+    below-each n (pass_package says nodes)
+    (all-package (Unit {0}) same_scope (IsBelow n) (λ b. Unit {0}) (λ close kids. Unit {0}) none (λ tail e s. refl) (live-below n) (λ s tag close below. below)
+    (λ close old new h empty. tt) (λ close old new h. tt) says tt nodes (stories-declare (stories nodes)) (each-below n nodes h))
