@@ -49,7 +49,7 @@ function tell(message) {
   if (what) parts.push(make("p", { className: "what", textContent: what }));
   if (todo) parts.push(make("p", { className: "todo", textContent: todo }));
   if (line) parts.push(...line.split("\n").map((textContent) => make("p", { className: "line", textContent })));
-  if (acts.length) parts.push(make("p", { className: "acts" }, ...acts.map(([text, act]) => button(text, act))));
+  if (acts.length) parts.push(make("p", { className: "acts" }, ...acts.map(([text, act]) => button(text, act, isFault ? { className: "main" } : {}))));
   element("message").replaceChildren(...parts);
   element("message").classList.toggle("is-fault", isFault);
   element("dismiss").hidden = parts.length === 0;

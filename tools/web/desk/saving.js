@@ -111,7 +111,7 @@ async function showSaving() {
   const count = counts(await listing());
   const left = count.disputed + count.open;
   element("document-told").textContent = counted(count.accept, "change") + " accepted, " + count.reject.toLocaleString("en") + " rejected. " +
-    (left ? counted(left, "change stays", "changes stay") + " tracked: " + count.disputed + " disputed, " + count.open + " open." : "All are decided.");
+    (left ? counted(left, "change stays", "changes stay") + " tracked: " + ["disputed", "open"].filter((it) => count[it]).map((it) => count[it].toLocaleString("en") + " " + it).join(", ") + "." : "All are decided.");
   element("drop-notes-label").hidden = element("form").value !== "docx";
   const parts = pageParts();
   const isEmpty = !hasEntries(parts.journal(parts.name() || standIn()));
