@@ -4,9 +4,8 @@
 
 ghost use Rattle.std.specs.Prelude.{◌≡◌, ℕ, Ok, All, IfOk, IsUtf8, OnErr, OnOk, length, map, option_map};
 ghost use Rattle.std.specs.Io.KnownBytes.{append_known};
-ghost use Rattle.redl_commands_shown.specs.Page.{is_locked, page_of, paged, shown_of};
+ghost use Rattle.redl_commands_shown.specs.Page.{is_locked, page_of, paged, session_said, shown_of};
 ghost use Rattle.redl_commands.specs.Endings.{Ends, EndsAlone, Finishes};
-ghost use Rattle.redl_excerpts.specs.Properties.{changed_lines};
 ghost use Rattle.redl_inputs.specs.Views.{admission_view};
 ghost use Rattle.redl_io.specs.Sink.{CountsPut, GrowsByFront};
 ghost use Rattle.redl_join.specs.LastWords.{last_words, words_on};
@@ -113,7 +112,7 @@ fn facts_of(
 ) -> Result<Facts, AllocError>
     ensures digest { IfOk result (λ facts. facts.digest ≡ digest) }
     ensures locked { IfOk result (λ facts. facts.locked.items ≡ map (is_locked locks.now) session.now.revisions) }
-    ensures said { IfOk result (λ facts. facts.said.items ≡ changed_lines session.now.nodes session.now.revisions) }
+    ensures said { IfOk result (λ facts. facts.said.items ≡ session_said session.now) }
 {
     let locked = locked_revisions(alloc, session.index().revisions(), locks)?;
     let said = changed_lines(alloc, session.package(), session.index())?;
@@ -134,7 +133,7 @@ fn put_session<'a, O: Sink>(
     out: &mut O,
 ) -> End<'a>
     requires locked { length facts.now.locked.items ≡ length session.now.revisions }
-    requires said { facts.now.said.items ≡ changed_lines session.now.nodes session.now.revisions }
+    requires said { facts.now.said.items ≡ session_said session.now }
     ensures { EndsAlone O.told O.faults out.old out.new
         (λ _. Ok (record { bytes = page_text (skin_view skin.now) (shown_of session.now facts.now.locked.items facts.now.digest (heading_view heading.entry)); remarks = remarks_view remarks }))
         (end_view result) }

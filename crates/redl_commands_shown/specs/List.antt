@@ -34,7 +34,7 @@ abbrev pub session_shown : List Only → SessionState → List Bool
 session_shown wanted state = shown_revisions wanted state.revisions (session_verdicts state)
 
 -- the details of those that are shown, where the format shows details
-abbrev pub session_details : List ℕ → List Only → SessionState → List Detail
+unfoldable pub session_details : List ℕ → List Only → SessionState → List Detail
 session_details name wanted state =
     if shows_details name then package_details state.nodes state.revisions (session_shown wanted state) state.book else []
 

@@ -17,6 +17,10 @@ use Rattle.redl_session.specs.Sessions.{SessionState}
 abbrev pub is_locked : List Lock → Revision → Bool
 is_locked locks revision = is_some (bar_of locks revision)
 
+-- what each revision of a session changes, in words
+unfoldable pub session_said : SessionState → List (List ℕ)
+session_said state = changed_lines state.nodes state.revisions
+
 -- what the page of a session shows: its package and revisions, which of these are locked, what each of them changes, the admitted
 -- entries, the digest, and what the sender gives
 abbrev pub shown_of : SessionState → List Bool → List ℕ → Heading → Shown
@@ -25,7 +29,7 @@ shown_of state locked digest heading =
       nodes = state.nodes;
       revisions = state.revisions;
       locked = locked;
-      said = changed_lines state.nodes state.revisions;
+      said = session_said state;
       book = state.book;
       digest = digest;
       heading = heading;

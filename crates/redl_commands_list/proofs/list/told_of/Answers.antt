@@ -1,4 +1,5 @@
-use Rattle.std.proofs.Common.{◌∙◌, ap, sym, length}
+use Rattle.std.proofs.Common.{rules, ◌≡◌, ◌∙◌, ap, sym, length}
+use Rattle.redl_commands_shown.specs.List.{session_details}
 use Rattle.redl_commands_list.proofs.FormatLaws.{verdicts_for}
 use Rattle.redl_commands_list.proofs.list.told_of.Goals as goal
 
@@ -6,3 +7,7 @@ pub shown_revisions-requires : goal.shown_revisions-requires
 shown_revisions-requires c =
     let state = c.args.session in
     ap length c.deref.ensures.value ∙ verdicts_for state.book (length state.revisions) c.in_ok-verdicts.verdicts.items c.in_ok-verdicts.ensures ∙ sym (ap length (c.revisions.ensures.value ∙ c.index.ensures))
+
+pub returns-clause-details : goal.returns-clause-details
+unfolding session_details
+returns-clause-details c = search rules

@@ -1,8 +1,7 @@
 use Rattle.std.proofs.Common.{◌∙◌, Err, Ok, ap, length, refl, subst, sym}
-use Rattle.redl_commands_show.proofs.PageLaws.{changed_lines-length, same_shown}
-use Rattle.redl_commands_shown.specs.Page.{shown_of}
+use Rattle.redl_commands_show.proofs.PageLaws.{session_said-length, same_shown}
+use Rattle.redl_commands_shown.specs.Page.{session_said, shown_of}
 use Rattle.redl_commands.specs.Endings.{Finishes}
-use Rattle.redl_excerpts.specs.Properties.{changed_lines}
 use Rattle.redl_lines.specs.Ends.{end_view}
 use Rattle.redl_lines.specs.Failures.{no_memory}
 use Rattle.redl_lines.specs.Remarks.{remarks_view}
@@ -15,7 +14,7 @@ put_shown-requires-clause-locked g c = ap length c.deref.ensures.value ∙ c.req
 
 pub put_shown-requires-clause-said : goal.put_shown-requires-clause-said
 put_shown-requires-clause-said g c =
-    ap length (c.deref-2.ensures.value ∙ c.requires.said) ∙ changed_lines-length c.args.session.now.nodes c.args.session.now.revisions
+    ap length (c.deref-2.ensures.value ∙ c.requires.said) ∙ session_said-length c.args.session.now
     ∙ sym (ap length c.index.ensures)
 
 pub returns-in_default : goal.returns-in_default
@@ -36,7 +35,7 @@ returns g c = record {
       (λ (shown : Shown). Finishes g.O.Sink.told g.O.Sink.faults c.args.out.now c.put_shown.new.out
       (Ok (record { bytes = page_text (skin_view c.args.skin.now) shown; remarks = remarks_view c.args.remarks })) (end_view c.put_shown.result))
       (same_shown c.package.result.now c.args.session.now.nodes c.index.result.now c.args.session.now.revisions c.deref.result.now c.args.facts.now.locked.items
-      c.deref-2.result.now (changed_lines c.args.session.now.nodes c.args.session.now.revisions) c.book-2.result.now c.args.session.now.book
+      c.deref-2.result.now (session_said c.args.session.now) c.book-2.result.now c.args.session.now.book
       c.args.facts.now.digest (heading_view c.args.heading) c.package.ensures c.index.ensures c.deref.ensures.value (c.deref-2.ensures.value ∙ c.requires.said) c.book-2.ensures)
       c.put_shown.ensures;
 }
