@@ -1,0 +1,2 @@
+pub mod NamedLaws
+mod Rows

@@ -1,0 +1,5 @@
+pub mod Nums
+pub mod Known
+pub mod Counts
+pub mod NumberTexts
+pub mod Inside
