@@ -32,18 +32,23 @@ detail_of excerpt place entries = record {
   after = text_or_nothing excerpt.behind;
   id = option_map text_or_nothing excerpt.id;
   changed = excerpt.changed;
+  clause = None;
   place = place;
   says = map last_word_of entries;
 }
 
 -- no detail
 abbrev pub no_detail : Detail
-no_detail = record { words = []; before = []; after = []; id = None; changed = nothing_changed; place = Document; says = [] }
+no_detail = record { words = []; before = []; after = []; id = None; changed = nothing_changed; clause = None; place = Document; says = [] }
 
 -- the detail of a revision, if there is an excerpt of it
 abbrev pub detail_if : Option Excerpt → StoryPlace → List Entry → Detail
 detail_if None place entries = no_detail
 detail_if (Some excerpt) place entries = detail_of excerpt place entries
+
+-- the same with this clause
+abbrev pub with_clause : Detail → Option (List ℕ) → Detail
+with_clause detail clause = record detail { clause = clause }
 
 -- the details of revisions, of which the first has this number
 abbrev pub details_from : ℕ → List (Option Excerpt) → (ℕ → StoryPlace) → (ℕ → List Entry) → List Detail
@@ -61,6 +66,7 @@ pub record IsDetail (detail : Detail) : Type 0 where
   pub before : IsUtf8 detail.before
   pub after : IsUtf8 detail.after
   pub id : IfSome detail.id IsUtf8
+  pub clause : IfSome detail.clause IsUtf8
   pub says : All (λ (said : LastWord). IsUtf8 said.reviewer) detail.says
 
 -- the details of the revisions of a package that are wanted, on which a book has these entries, and none of each other one

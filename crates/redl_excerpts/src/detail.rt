@@ -1,10 +1,11 @@
 //! What a listing shows of a revision beside its row.
 
-ghost use Rattle.std.specs.Prelude.{◌≡◌, ◌+◌, ◌^◌, ◌<◌, All, IfOk, length, map};
+ghost use Rattle.std.specs.Prelude.{◌≡◌, ◌+◌, ◌^◌, ◌<◌, All, IfOk, IfSome, length, map};
 ghost use Rattle.std.specs.Map.Iter.{deref};
+ghost use Rattle.std.specs.Str.{IsUtf8};
 ghost use Rattle.redl_join.specs.LastWords.{words_on};
 ghost use Rattle.redl_places.specs.Views.{place_at};
-ghost use Rattle.redl_excerpts.specs.Details.{IsDetail, detail_if, detail_of, details_of, no_detail};
+ghost use Rattle.redl_excerpts.specs.Details.{IsDetail, detail_if, detail_of, details_of, no_detail, with_clause};
 
 use crate::Excerpt;
 use crate::checked::{kept, kept_if_any};
@@ -29,6 +30,8 @@ pub struct Detail {
     pub id: Option<Text>,
     /// The properties that the revision changes.
     pub changed: ChangedSaid,
+    /// The clause that the revision is in, where that is known and there is one.
+    pub clause: Option<Text>,
     /// Where its first member is.
     pub place: StoryPlace,
     /// Who said what.
@@ -46,6 +49,7 @@ impl Detail {
             after: Text::copy_of(alloc, b"")?,
             id: None,
             changed: ChangedSaid::none(alloc)?,
+            clause: None,
             place: StoryPlace::Document,
             says: Says::none(alloc),
         })
@@ -80,9 +84,20 @@ impl Detail {
             after,
             id,
             changed,
+            clause: None,
             place,
             says,
         })
+    }
+
+    /// The same with this clause.
+    pub fn with_clause(self, clause: Option<Text>) -> Detail
+        requires detail { IsDetail self }
+        requires clause { IfSome clause IsUtf8 }
+        ensures value { result ≡ with_clause self clause }
+        ensures utf8 { IsDetail result }
+    {
+        Detail { clause, ..self }
     }
 
     /// An equal detail. `Err` means out of memory.
@@ -94,6 +109,7 @@ impl Detail {
         let after = self.after.copy(alloc)?;
         let id = copy_if_any(alloc, &self.id)?;
         let changed = self.changed.copy(alloc)?;
+        let clause = copy_if_any(alloc, &self.clause)?;
         let says = self.says.copy(alloc)?;
         Ok(Detail {
             words,
@@ -101,6 +117,7 @@ impl Detail {
             after,
             id,
             changed,
+            clause,
             place: self.place,
             says,
         })

@@ -1,0 +1,4 @@
+pub mod Signs
+pub mod Walks
+pub mod Clauses
+pub mod Inside
