@@ -12,7 +12,9 @@ import os
 import re
 import sys
 
+import clauses
 import formats
+import places
 import reading
 
 SKIN = os.path.join(os.path.dirname(os.path.dirname(os.path.abspath(__file__))), "crates", "redl_skin", "page")
@@ -197,9 +199,13 @@ class Page:
 
     def changed(self, number):
         """What a change of properties changes, in words."""
-        if number not in self.changes:
-            return ""
-        return '<p class="changed"><bdi>%s</bdi></p>' % escaped(formats.line(formats.compared(self.changes[number])))
+        return formats.line(formats.compared(self.changes[number])) if number in self.changes else ""
+
+    def words(self, number):
+        """The clause of a change, its place where that isn't the document, and what it changes."""
+        place = places.place_of(self.package, number)
+        said = ("clause", clauses.clause_of(self.package, number)), ("place", "" if place == "document" else place), ("changed", self.changed(number))
+        return "".join('<p class="%s"><bdi>%s</bdi></p>' % (name, escaped(text)) for name, text in said if text)
 
     def row(self, number, revision):
         date = "-"
@@ -208,7 +214,7 @@ class Page:
         locked = "yes" if reading.refusal(self.package, ("", 1, number, "accept"), self.locks) else "no"
         values = (number, revision.kind, escaped(revision.author), date, reading.verdict(number, self.book), locked)
         start = '<li id="revision-%d" data-kind="%s" data-author="%s" data-date="%s" data-verdict="%s" data-locked="%s">'
-        return start % values + self.changed(number) + self.says(number) + "</li>\n"
+        return start % values + self.words(number) + self.says(number) + "</li>\n"
 
     def reviewers(self):
         greatest = {}

@@ -188,7 +188,7 @@ def for_readers(driven):
         same("what is told of %s" % selector, [role in ("img", "image"), told_name], [True, name])
     same("no sign at the edge of a row is a cell", seen.run("return document.querySelectorAll('main td.edge').length"), 0)
     reached = seen.run(REACHED)
-    told("a change in the text can have the keyboard, and has its author", len(reached) > 20 and all(has and re.match(r"Change \d+: .* by \w", title) for has, title in reached), str(reached))
+    told("a change in the text can have the keyboard, and has its author", len(reached) > 20 and all(has and re.match(r"Change \d+(, [^:]+)?: .* by \w", title) for has, title in reached), str(reached))
     nameless = [role for role, name in driven.spoken(CONTROLS) if not name.strip()]
     same("each control has a name", [role for role in nameless if role not in ("none", "listitem")], [])
 

@@ -63,6 +63,21 @@ def in_package(body, more=()):
     return PACKAGE % "".join(PART % (name, root, WORD, inside, root) for name, root, inside in parts)
 
 
+LEVEL = '<w:lvl w:ilvl="%d"><w:start w:val="1"/><w:numFmt w:val="%s"/><w:lvlText w:val="%s"/></w:lvl>'
+LEVELS = "".join(LEVEL % level for level in [(0, "decimal", "%1."), (1, "decimal", "%1.%2"), (2, "lowerLetter", "(%3)")])
+NUMBERING = '<w:abstractNum w:abstractNumId="0">%s</w:abstractNum><w:num w:numId="1"><w:abstractNumId w:val="0"/></w:num>' % LEVELS
+NUMBERING_RELATIONS = (
+    '<pkg:part pkg:name="/word/_rels/document.xml.rels" pkg:contentType="x"><pkg:xmlData><Relationships xmlns="x">'
+    '<Relationship Type="http://x/numbering" Target="numbering.xml"/></Relationships></pkg:xmlData></pkg:part>'
+)
+
+
+def in_numbered(body, more=()):
+    """The same with a list of three levels, that of the num 1."""
+    parts = [("/word/numbering.xml", "numbering", NUMBERING), *more]
+    return in_package(body, parts).replace("</pkg:package>", NUMBERING_RELATIONS + "</pkg:package>")
+
+
 def example(name):
     return page.read(os.path.join(EXAMPLES, name))
 

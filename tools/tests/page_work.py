@@ -3,7 +3,7 @@ import os
 import time
 
 from page_seen import (
-    ENTER, IS_OWN, LOCK, REDLINE, REVIEWERS, Seen, call, example, in_package, page, page_of, reading, same, told, wait, written,
+    ENTER, IS_OWN, LOCK, REDLINE, REVIEWERS, Seen, call, example, in_numbered, in_package, page, page_of, reading, same, told, wait, written,
 )
 
 SHOWN_ROWS = "return [...document.querySelectorAll('aside > ol > li:not([hidden])')].map((it) => Number(it.id.slice(9)))"
@@ -161,6 +161,29 @@ def says_formats(driven):
     same("without a change of language only there is no filter for it", seen.run("return document.querySelector('#kind option[value^=\"f:\"]') === null"), True)
 
 
+INS = '<w:ins w:author="Ann"><w:r><w:t>%s</w:t></w:r></w:ins>'
+NUMBERED = '<w:p><w:pPr><w:numPr><w:ilvl w:val="%d"/><w:numId w:val="1"/></w:numPr></w:pPr>%s</w:p>'
+WHERE = """return [...document.querySelectorAll('aside > ol > li')].map((row) => {
+  const before = [...row.children].slice(0, [...row.children].findIndex((it) => it.className === 'words'));
+  return ['clause', 'place'].map((name) => before.find((it) => it.className === name)?.textContent ?? null);
+})"""
+
+
+def says_clauses(driven):
+    """A change says its clause and its place before its words, and is found by both."""
+    file = os.path.join(driven.folder, "clauses.xml")
+    body = NUMBERED % (0, INS % "one") + NUMBERED % (1, INS % "two") + "<w:p>%s</w:p>" % INS % "three"
+    with open(file, "w", newline="", encoding="utf-8") as out:
+        out.write(in_numbered(body, [("/word/header1.xml", "hdr", "<w:p>%s</w:p>" % INS % "four")]))
+    seen = Seen(driven, page_of(file))
+    same("clauses and places stand before the words", seen.run(WHERE), [["1.", None], ["1.1", None], ["before 1.1", None], [None, "header"]])
+    heard = seen.run("return [1, 3].map(wordsOfChange)")
+    same("a screen reader hears them too", heard, ["Change 2, 1.1: inserted by Ann", "Change 4, header: inserted by Ann"])
+    for text, wanted in [("1.1", [2, 3]), ("header", [4]), ("before", [3]), ("", [1, 2, 3, 4])]:
+        seen.pick("#search", text)
+        same("clauses searched for " + (text or "nothing"), seen.run(SHOWN_ROWS), wanted)
+
+
 NEAR = [("another case", "ann gray"), ("two spaces", "Ann  Gray"), ("a no-break space", "Ann\u00a0Gray"), ("a zero-width space", "Ann\u200b Gray")]
 
 
@@ -309,4 +332,4 @@ def keeps_policy(driven):
     same("no complaint", [it for it in driven.complaints() if "trusted" not in it.lower()], [])
 
 
-CASES = [many_at_once, undoes, goes_on, holds_keys, searches, says_formats, asks_about_names, keeps_controls_in_names, sums_up, names_files, ranked, in_a_frame, prints, keeps_policy]
+CASES = [many_at_once, undoes, goes_on, holds_keys, searches, says_formats, says_clauses, asks_about_names, keeps_controls_in_names, sums_up, names_files, ranked, in_a_frame, prints, keeps_policy]

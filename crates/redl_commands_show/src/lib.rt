@@ -8,6 +8,7 @@
 #![tactic(auto)]
 
 mod check;
+mod items;
 mod page;
 mod text;
 

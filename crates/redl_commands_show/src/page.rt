@@ -14,14 +14,14 @@ ghost use Rattle.redl_lines.specs.Remarks.{remarks_view};
 ghost use Rattle.redl_page.specs.Page.{heading_with, page_text};
 ghost use Rattle.redl_page.specs.PageViews.{heading_view, shown_by, skin_view};
 
-use redl_excerpts::changed_lines;
+use crate::items::items_of;
 use redl_index::Revision;
 use redl_inputs::{Admitted, open};
-use redl_io::{Failed, Shelf, Sink, Staged, Text};
+use redl_io::{Failed, Shelf, Sink, Staged};
 use redl_join::LastWords;
 use redl_kinds::Lock;
 use redl_lines::{End, Failure, Remarks};
-use redl_page::{Heading, Shown, Skin, write_page};
+use redl_page::{Heading, ItemWords, Shown, Skin, write_page};
 use redl_select::any_holds;
 use redl_session::Session;
 use redl_words::PageCommand;
@@ -99,8 +99,8 @@ struct Facts {
     digest: [u8; 32],
     // Whether each revision is locked.
     locked: Vec<bool>,
-    // What each changes, in words.
-    said: Vec<Text>,
+    // What is said of each.
+    said: Vec<ItemWords>,
 }
 
 // The same of a session with these locks, of whose package this is the digest.
@@ -115,7 +115,7 @@ fn facts_of(
     ensures said { IfOk result (λ facts. facts.said.items ≡ session_said session.now) }
 {
     let locked = locked_revisions(alloc, session.index().revisions(), locks)?;
-    let said = changed_lines(alloc, session.package(), session.index())?;
+    let said = items_of(alloc, session)?;
     Ok(Facts {
         digest,
         locked,

@@ -1,5 +1,6 @@
 -- `page P` with a title, a rank, journals and locks: a page on which a reviewer sees the revisions of the package and decides in a browser.
-use Rattle.std.specs.Prelude.{ℕ, Bool, List, map, is_some, Result, Ok}
+use Rattle.std.specs.Prelude.{ℕ, ◌-◌, Bool, List, [], Option, length, map, slice_get, is_some, unwrap_or, Result, Ok, if◌then◌else◌}
+use Rattle.redl_clauses.specs.Clauses.{clause_at, clauses_of}
 use Rattle.redl_excerpts.specs.Properties.{changed_lines}
 use Rattle.redl_inputs.specs.Admission.{Admission, opened}
 use Rattle.redl_inputs.specs.Readers.{Reader}
@@ -9,6 +10,10 @@ use Rattle.redl_index.specs.declared.revision.Revision.{Revision}
 use Rattle.redl_io.specs.Shelf.{Files}
 use Rattle.redl_lines.specs.Failures.{Failure}
 use Rattle.redl_page.specs.Page.{Heading, Shown, Skin, page_text}
+use Rattle.redl_page.specs.declared.item.ItemWords.{ItemWords}
+use Rattle.redl_places.specs.Places.{is_document, place_on}
+use Rattle.redl_places.specs.Texts.{place_text}
+use Rattle.redl_places.specs.declared.place.StoryPlace.{StoryPlace}
 use Rattle.redl_kinds.specs.declared.lock.Lock.{Lock}
 use Rattle.redl_session.specs.Bars.{bar_of}
 use Rattle.redl_session.specs.Sessions.{SessionState}
@@ -17,11 +22,24 @@ use Rattle.redl_session.specs.Sessions.{SessionState}
 abbrev pub is_locked : List Lock → Revision → Bool
 is_locked locks revision = is_some (bar_of locks revision)
 
--- what each revision of a session changes, in words
-unfoldable pub session_said : SessionState → List (List ℕ)
-session_said state = changed_lines state.nodes state.revisions
+-- where a revision is, unless it is in the document
+abbrev pub place_said : StoryPlace → List ℕ
+place_said place = if is_document place then [] else place_text place
 
--- what the page of a session shows: its package and revisions, which of these are locked, what each of them changes, the admitted
+-- what a page says of a revision, by the clauses of all revisions, their places, and the lines on what they change
+abbrev pub item_words : List (Option (List ℕ)) → (ℕ → StoryPlace) → List (List ℕ) → Revision → ItemWords
+item_words clauses place_on lines revision = record {
+  clause = unwrap_or (clause_at clauses (revision.number - 1)) [];
+  place = place_said (place_on revision.number);
+  changed = unwrap_or (slice_get lines (revision.number - 1)) [];
+}
+
+-- the same of each revision of a session
+unfoldable pub session_said : SessionState → List ItemWords
+session_said state =
+    map (item_words (clauses_of state.nodes (length state.revisions)) (place_on state.nodes) (changed_lines state.nodes state.revisions)) state.revisions
+
+-- what the page of a session shows: its package and revisions, which of these are locked, what is said of each of them, the admitted
 -- entries, the digest, and what the sender gives
 abbrev pub shown_of : SessionState → List Bool → List ℕ → Heading → Shown
 shown_of state locked digest heading =

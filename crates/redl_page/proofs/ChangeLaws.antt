@@ -1,5 +1,6 @@
 -- The list of changes: what is written of it, and that each revision has an item.
-use Rattle.std.proofs.Common.{◌≡◌, ℕ, ◌+◌, ◌<◌, ◌≤◌, List, [], ◌∷◌, ◌++◌, length, drop, get_or, Bool, true, false, ◌&&◌, Option, Some, eqb, eq-eqb, refl, sym, ap, ◌∙◌, append_assoc, append-nil, arith, codes, if◌then◌else◌}
+use Prim.Native.String.{String}
+use Rattle.std.proofs.Common.{◌≡◌, ℕ, ◌+◌, ◌<◌, ◌≤◌, List, [], ◌∷◌, ◌++◌, length, drop, get_or, Bool, true, false, ◌&&◌, eqb, eq-eqb, refl, sym, ap, ◌∙◌, append_assoc, append-nil, arith, codes, if◌then◌else◌}
 use Rattle.std.specs.Prelude.{◌==◌, decimal}
 use Rattle.std.specs.List.{flat_map, AllByRecursion}
 use Rattle.std.proofs.lemmas.List.{drop_more, drop_all}
@@ -12,32 +13,46 @@ use Rattle.redl_join.specs.LastWords.{last_words}
 use Rattle.redl_join.specs.Verdicts.{verdict_at}
 use Rattle.redl_join.specs.declared.verdict.Verdict.{Verdict}
 use Rattle.redl_formats.specs.Dates.{date_text}
-use Rattle.redl_page.specs.Changes.{opens_item, has_item, change, change_head, change_state, changes, properties, rank_words, saying, saying_end, saying_start, verdict_before, word_after, word_before, locked_before}
+use Rattle.redl_page.specs.Changes.{opens_item, has_item, change, change_head, change_state, changes, item_words, rank_words, saying, saying_end, saying_start, verdict_before, word_after, word_before, words_in, words_text, locked_before}
+use Rattle.redl_page.specs.declared.item.ItemWords.{ItemWords}
 use Rattle.redl_html.specs.Escaping.{escaped}
-use Rattle.redl_html.specs.Pieces.{HtmlPiece, own, pieces_text}
+use Rattle.redl_html.specs.Pieces.{HtmlPiece, outside, own, pieces_text}
 use Rattle.redl_html.proofs.NumberLaws.{has-left, has-right}
 use Rattle.redl_html.proofs.PieceLaws.{pieces_text-append}
 
 -- ---- what is written
 
-pub change-text : (revision : Revision) (verdict : Verdict) (locked : Bool) (said : List ℕ) (words : List Entry) → pieces_text (change revision verdict locked said words)
-    ≡ pieces_text (change_head revision) ++ (pieces_text (change_state verdict locked) ++ (pieces_text (properties said) ++ (pieces_text (flat_map saying words) ++ codes "</li>\n")))
+pub change-text : (revision : Revision) (verdict : Verdict) (locked : Bool) (said : ItemWords) (words : List Entry) → pieces_text (change revision verdict locked said words)
+    ≡ pieces_text (change_head revision) ++ (pieces_text (change_state verdict locked) ++ (pieces_text (item_words said) ++ (pieces_text (flat_map saying words) ++ codes "</li>\n")))
 change-text revision verdict locked said words =
     let sayings : List HtmlPiece = flat_map saying words ++ (own "</li>\n" ∷ []) in
-    pieces_text-append (change_head revision) (change_state verdict locked ++ (properties said ++ sayings))
+    pieces_text-append (change_head revision) (change_state verdict locked ++ (item_words said ++ sayings))
     ∙ ap (λ l. pieces_text (change_head revision) ++ l) (
-    pieces_text-append (change_state verdict locked) (properties said ++ sayings)
+    pieces_text-append (change_state verdict locked) (item_words said ++ sayings)
     ∙ ap (λ l. pieces_text (change_state verdict locked) ++ l) (
-    pieces_text-append (properties said) sayings
-    ∙ ap (λ l. pieces_text (properties said) ++ l) (pieces_text-append (flat_map saying words) (own "</li>\n" ∷ []))
+    pieces_text-append (item_words said) sayings
+    ∙ ap (λ l. pieces_text (item_words said) ++ l) (pieces_text-append (flat_map saying words) (own "</li>\n" ∷ []))
     ))
 
-pub properties-text : (said : List ℕ) → (length said == 0) ≡ false → pieces_text (properties said)
-    ≡ codes "<p class=\"changed\"><bdi>" ++ (escaped said ++ codes "</bdi></p>")
-properties-text said e = rw e (ap (λ l. codes "<p class=\"changed\"><bdi>" ++ (escaped said ++ l)) (append-nil (codes "</bdi></p>")))
+words_in-text : (before : String) (text : List ℕ) → pieces_text (words_in before text) ≡ words_text (codes before) text
+words_in-text before text = by (length text == 0)
+  where
+    by : (none : Bool) → pieces_text (if none then [] else own before ∷ outside text ∷ own "</bdi></p>" ∷ []) ≡ (if none then [] else (codes before ++ escaped text) ++ codes "</bdi></p>")
+    by true = refl
+    by false = ap (λ (l : List ℕ). codes before ++ (escaped text ++ l)) (append-nil (codes "</bdi></p>")) ∙ sym (append_assoc (codes before) (escaped text) (codes "</bdi></p>"))
 
-pub properties-nothing : (said : List ℕ) → (length said == 0) ≡ true → pieces_text (properties said) ≡ []
-properties-nothing said e = rw e refl
+pub item_words-text : (said : ItemWords) → pieces_text (item_words said)
+    ≡ words_text (codes "<p class=\"clause\"><bdi>") said.clause
+    ++ (words_text (codes "<p class=\"place\"><bdi>") said.place ++ words_text (codes "<p class=\"changed\"><bdi>") said.changed)
+item_words-text said =
+    let clause = words_in "<p class=\"clause\"><bdi>" said.clause in
+    let place = words_in "<p class=\"place\"><bdi>" said.place in
+    let changed = words_in "<p class=\"changed\"><bdi>" said.changed in
+    pieces_text-append clause (place ++ changed)
+    ∙ ap (λ (l : List ℕ). l ++ pieces_text (place ++ changed)) (words_in-text "<p class=\"clause\"><bdi>" said.clause)
+    ∙ ap (λ (l : List ℕ). words_text (codes "<p class=\"clause\"><bdi>") said.clause ++ l) (pieces_text-append place changed
+    ∙ ap (λ (l : List ℕ). l ++ pieces_text changed) (words_in-text "<p class=\"place\"><bdi>" said.place)
+    ∙ ap (λ (l : List ℕ). words_text (codes "<p class=\"place\"><bdi>") said.place ++ l) (words_in-text "<p class=\"changed\"><bdi>" said.changed))
 
 head_parts : (a n b k c m d t : List ℕ) → a ++ (n ++ (b ++ (k ++ (c ++ (m ++ (d ++ (t ++ []))))))) ≡ ((a ++ n) ++ (b ++ k)) ++ ((c ++ m) ++ (d ++ t))
 head_parts a n b k c m d t = simp (append_assoc, append-nil)
@@ -70,7 +85,7 @@ pub sayings-more : (entry : Entry) (entries : List Entry) → pieces_text (flat_
 sayings-more entry entries = pieces_text-append (saying entry) (flat_map saying entries)
 
 -- the revisions from this place on
-pub changes-here : (book : List Entry) (revisions : List Revision) (locked : List Bool) (said : List (List ℕ)) (place : ℕ) (revision : Revision) (lock other : Bool) (words : List ℕ)
+pub changes-here : (book : List Entry) (revisions : List Revision) (locked : List Bool) (said : List ItemWords) (place : ℕ) (revision : Revision) (lock other : Bool) (words : ItemWords)
     → place < length revisions → place < length locked → place < length said →
     revision ≡ get_or revisions place revision → lock ≡ get_or locked place other → words ≡ get_or said place words →
     pieces_text (changes book (drop place revisions) (drop place locked) (drop place said))
@@ -82,13 +97,13 @@ changes-here book revisions locked said place revision lock other words within a
     ∙ ap (λ ws. pieces_text (changes book (revision ∷ drop (place + 1) revisions) (lock ∷ drop (place + 1) locked) ws)) (drop_more said place words too ∙ ap (λ x. x ∷ drop (place + 1) said) (sym w))
     ∙ pieces_text-append (change revision (verdict_at book revision.number) lock words (last_words book revision.number)) (changes book (drop (place + 1) revisions) (drop (place + 1) locked) (drop (place + 1) said))
 
-pub changes-end : (book : List Entry) (revisions : List Revision) (locked : List Bool) (said : List (List ℕ)) (place : ℕ) → length revisions ≤ place
+pub changes-end : (book : List Entry) (revisions : List Revision) (locked : List Bool) (said : List ItemWords) (place : ℕ) → length revisions ≤ place
     → pieces_text (changes book (drop place revisions) (drop place locked) (drop place said)) ≡ []
 changes-end book revisions locked said place past = ap (λ rs. pieces_text (changes book rs (drop place locked) (drop place said))) (drop_all place revisions past)
 
 -- ---- items
 
-change-has : (revision : Revision) (verdict : Verdict) (locked : Bool) (said : List ℕ) (words : List Entry) → has_item revision.number (change revision verdict locked said words) ≡ true
+change-has : (revision : Revision) (verdict : Verdict) (locked : Bool) (said : ItemWords) (words : List Entry) → has_item revision.number (change revision verdict locked said words) ≡ true
 change-has revision verdict locked said words =
     or_left (opens_item (own "<li id=\"revision-") && eqb revision.number revision.number) _ (and_from (opens_item (own "<li id=\"revision-")) (eqb revision.number revision.number) refl (eq-eqb revision.number revision.number refl))
 
@@ -97,7 +112,7 @@ all-map P Q f [] h = tt
 all-map P Q f (x ∷ xs) h = (f x h.0, all-map P Q f xs h.1)
 
 -- each revision has an item
-pub changes-have : (book : List Entry) (revisions : List Revision) (locked : List Bool) (said : List (List ℕ)) → length locked ≡ length revisions → length said ≡ length revisions →
+pub changes-have : (book : List Entry) (revisions : List Revision) (locked : List Bool) (said : List ItemWords) → length locked ≡ length revisions → length said ≡ length revisions →
     AllByRecursion (λ revision. has_item revision.number (changes book revisions locked said) ≡ true) revisions
 changes-have book [] locked said e f = tt
 changes-have book (revision ∷ later) [] said e f = absurd (omega (arith, e))

@@ -5,7 +5,7 @@ use Rattle.redl_opc.specs.Shape.{parts_of}
 use Rattle.redl_shown.specs.Shown.{shown}
 use Rattle.redl_page.specs.Changes.{changes, reviewers}
 use Rattle.redl_page_stories.specs.Document.{sections}
-use Rattle.redl_page.specs.Page.{Heading, Shown, Skin, before_changes, before_policy, before_style, body, body_head, body_start, head_text, heading_attributes, lists, rank_attribute, reviewer_list, title_attribute, title_piece}
+use Rattle.redl_page.specs.Page.{Heading, Shown, Skin, before_changes, before_policy, body, body_head, body_start, head_text, heading_attributes, lists, rank_attribute, reviewer_list, title_attribute, title_piece}
 use Rattle.redl_html.specs.Pieces.{HtmlPiece, own, piece_text, pieces_text}
 use Rattle.redl_html.proofs.PieceLaws.{pieces_text-append}
 

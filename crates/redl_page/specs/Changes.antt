@@ -1,5 +1,5 @@
--- The list of changes beside the document (our own rule): an item for each revision in the order of the numbers, with what it changes
--- where it is a change of properties, and the last words of each reviewer on it; and the reviewers, each with the greatest sequence number of their entries.
+-- The list of changes beside the document (our own rule): an item for each revision in the order of the numbers, with its clause, its
+-- place, what it changes where it is a change of properties, and the last words of each reviewer on it; and the reviewers, each with the greatest sequence number of their entries.
 use Prim.Native.String.{String}
 use Rattle.std.specs.Prelude.{ℕ, ◌==◌, List, [], ◌∷◌, ◌++◌, Bool, true, false, Option, Some, None, codes, length, if◌then◌else◌}
 use Rattle.std.specs.List.{flat_map}
@@ -14,6 +14,8 @@ use Rattle.redl_join.specs.Verdicts.{verdict_at, greatest_seq}
 use Rattle.redl_join.specs.declared.verdict.Verdict.{Verdict}
 use Rattle.redl_join.specs.declared.verdict.Verdict.TheVariants as verdict
 use Rattle.redl_formats.specs.Dates.{date_text}
+use Rattle.redl_html.specs.Escaping.{escaped}
+use Rattle.redl_page.specs.declared.item.ItemWords.{ItemWords}
 use Rattle.redl_html.specs.Pieces.{HtmlPiece, own, number, outside, ends_in, has_number}
 
 -- ---- a revision
@@ -62,16 +64,26 @@ change_head revision =
 abbrev pub change_state : Verdict → Bool → List HtmlPiece
 change_state verdict locked = own (verdict_before verdict) ∷ own (locked_before locked) ∷ []
 
--- what a change of properties changes, in these words; without words there is nothing
-abbrev pub properties : List ℕ → List HtmlPiece
-properties said = if length said == 0 then [] else own "<p class=\"changed\"><bdi>" ∷ outside said ∷ own "</bdi></p>" ∷ []
+-- a paragraph with this text from outside; without bytes there is none
+abbrev pub words_in : String → List ℕ → List HtmlPiece
+words_in before text = if length text == 0 then [] else own before ∷ outside text ∷ own "</bdi></p>" ∷ []
 
-abbrev pub change : Revision → Verdict → Bool → List ℕ → List Entry → List HtmlPiece
+-- the same as it is written
+abbrev pub words_text : List ℕ → List ℕ → List ℕ
+words_text before text = if length text == 0 then [] else (before ++ escaped text) ++ codes "</bdi></p>"
+
+-- the clause of a revision, its place, and what it changes
+abbrev pub item_words : ItemWords → List HtmlPiece
+item_words said =
+    words_in "<p class=\"clause\"><bdi>" said.clause
+    ++ (words_in "<p class=\"place\"><bdi>" said.place ++ words_in "<p class=\"changed\"><bdi>" said.changed)
+
+abbrev pub change : Revision → Verdict → Bool → ItemWords → List Entry → List HtmlPiece
 change revision verdict locked said words =
-    change_head revision ++ (change_state verdict locked ++ (properties said ++ (flat_map saying words ++ (own "</li>\n" ∷ []))))
+    change_head revision ++ (change_state verdict locked ++ (item_words said ++ (flat_map saying words ++ (own "</li>\n" ∷ []))))
 
--- the revisions of a package, where these are locked or not and these words say what they change, under the entries of a book
-abbrev pub changes : List Entry → List Revision → List Bool → List (List ℕ) → List HtmlPiece
+-- the revisions of a package, where these are locked or not and this is said of them, under the entries of a book
+abbrev pub changes : List Entry → List Revision → List Bool → List ItemWords → List HtmlPiece
 changes book [] locked said = []
 changes book (revision ∷ later) [] said = []
 changes book (revision ∷ later) (lock ∷ locked) [] = []

@@ -11,6 +11,7 @@ use Rattle.redl_shown.specs.Shown.{shown}
 use Rattle.redl_html.specs.Pieces.{HtmlPiece, own, number, outside, pieces_text}
 use Rattle.redl_page_stories.specs.Document.{sections}
 use Rattle.redl_page.specs.Changes.{changes, reviewers}
+use Rattle.redl_page.specs.declared.item.ItemWords.{ItemWords}
 
 -- what stands as it is in the page: the content security policy, the style and the script
 pub record Skin : Type 0 where
@@ -26,13 +27,13 @@ pub record Heading : Type 0 where
 abbrev pub heading_with : Option (List ℕ) → Option ℕ → Heading
 heading_with title rank = record { title = title; rank = rank }
 
--- a package with its revisions, which of these are locked, what each of them changes in words, the book of its journals, its digest,
+-- a package with its revisions, which of these are locked, what is said of each of them, the book of its journals, its digest,
 -- and what the sender gives
 pub record Shown : Type 0 where
   pub nodes : Nodes
   pub revisions : List Revision
   pub locked : List Bool
-  pub said : List (List ℕ)
+  pub said : List ItemWords
   pub book : List Entry
   pub digest : List ℕ
   pub heading : Heading

@@ -1,6 +1,6 @@
 -- The list of reviewers in one pass: since the entries of a book are in their order, the last one of a reviewer's has their greatest
 -- sequence number.
-use Rattle.std.specs.Prelude.{ℕ, List, [], ◌∷◌, ◌++◌, Bool, false, not, Option, Some, None, bytes_eq, if◌then◌else◌}
+use Rattle.std.specs.Prelude.{List, [], ◌∷◌, ◌++◌, Option, Some, None, bytes_eq, if◌then◌else◌}
 use Rattle.redl_journal.specs.declared.entry.Entry.{Entry}
 use Rattle.redl_html.specs.Pieces.{HtmlPiece, own, number, outside}
 

@@ -9,10 +9,11 @@ ghost use Rattle.redl_index.specs.Revisions.{IsListable};
 ghost use Rattle.redl_join.specs.LastWords.{last_words, words_on};
 ghost use Rattle.redl_formats.specs.Dates.{date_text, moment_text};
 ghost use Rattle.redl_stamp.specs.Moment.{IsMoment};
-ghost use Rattle.redl_page.specs.Changes.{change, change_head, change_state, changes, locked_before, properties, rank_words, saying, saying_end, verdict_before, word_after, word_before};
+ghost use Rattle.redl_page.specs.Changes.{change, change_head, change_state, changes, item_words, locked_before, rank_words, saying, saying_end, verdict_before, word_after, word_before, words_text};
 ghost use Rattle.redl_html.specs.Escaping.{escaped};
 ghost use Rattle.redl_html.specs.Pieces.{pieces_text};
 
+use crate::item::ItemWords;
 use itoa::Buffer;
 use redl_formats::moment_text;
 use redl_html::put_escaped;
@@ -21,14 +22,14 @@ use redl_io::{Failed, Sink, Text, put_piece, put_pieces};
 use redl_join::{Book, LastWords, Verdict};
 use redl_journal::{Entry, Word};
 
-/// Puts an item for each revision in the order of the numbers, with what the book decides on it, whether it is locked, what it changes
-/// in these words, and the last words on it. It takes no memory.
+/// Puts an item for each revision in the order of the numbers, with what the book decides on it, whether it is locked, these words on
+/// it, and the last words of its reviewers. It takes no memory.
 pub(crate) fn put_changes<K: Sink>(
     index: &Index,
     book: &Book,
     words: &LastWords<'_>,
     locked: &[bool],
-    said: &[Text],
+    said: &[ItemWords],
     out: &mut K,
 ) -> Result<(), Failed>
     requires words { (rev : ℕ) → words_on words.now rev ≡ last_words book.now rev }
@@ -44,7 +45,7 @@ fn put_each<K: Sink>(
     book: &Book,
     words: &LastWords<'_>,
     locked: &[bool],
-    said: &[Text],
+    said: &[ItemWords],
     out: &mut K,
 ) -> Result<(), Failed>
     requires told { All IsListable revisions.now }
@@ -72,7 +73,7 @@ fn put_change<K: Sink>(
     revision: &Revision,
     verdict: Verdict,
     locked: bool,
-    said: &Text,
+    said: &ItemWords,
     words: &[&Entry],
     out: &mut K,
 ) -> Result<(), Failed>
@@ -81,7 +82,7 @@ fn put_change<K: Sink>(
 {
     put_change_head(revision, out)?;
     put_change_state(verdict, locked, out)?;
-    put_properties(said, out)?;
+    put_item_words(said, out)?;
     put_sayings(words, out)?;
     put_piece(b"</li>\n", out)
 }
@@ -175,16 +176,24 @@ fn locked_before(locked: bool) -> &'static [u8]
     }
 }
 
-// Puts what a change of properties changes, where there are words of it.
-fn put_properties<K: Sink>(said: &Text, out: &mut K) -> Result<(), Failed>
-    ensures { Puts K.told K.faults K.settled K.lenders out.old out.new (pieces_text (properties said.now)) result }
+// Puts the clause, the place and what is changed, where they say anything.
+fn put_item_words<K: Sink>(said: &ItemWords, out: &mut K) -> Result<(), Failed>
+    ensures { Puts K.told K.faults K.settled K.lenders out.old out.new (pieces_text (item_words said.now)) result }
 {
-    let bytes = said.as_bytes();
+    put_words(b"<p class=\"clause\"><bdi>", &said.clause, out)?;
+    put_words(b"<p class=\"place\"><bdi>", &said.place, out)?;
+    put_words(b"<p class=\"changed\"><bdi>", &said.changed, out)
+}
+
+// Puts a paragraph with this text from outside, where it says anything.
+fn put_words<K: Sink>(before: &[u8], text: &Text, out: &mut K) -> Result<(), Failed>
+    ensures { Puts K.told K.faults K.settled K.lenders out.old out.new (words_text before.now text.now) result }
+{
+    let bytes = text.as_bytes();
     if bytes.is_empty() {
         return Ok(());
     }
-    put_piece(b"<p class=\"changed\"><bdi>", out)?;
-    put_escaped(bytes, out)?;
+    put_attribute(before, bytes, out)?;
     put_piece(b"</bdi></p>", out)
 }
 

@@ -8,9 +8,11 @@
 #![tactic(auto)]
 
 mod changes;
+mod item;
 mod laws;
 mod page;
 mod reviewers;
 
+pub use item::ItemWords;
 pub use laws::each_revision_has_an_item;
 pub use page::{Heading, Shown, Skin, write_page};

@@ -1,7 +1,6 @@
 //! The whole page: its head with title, policy and style, its stories, its journals and its script.
 
 ghost use Rattle.std.specs.Prelude.{◌≡◌, ◌++◌, [], ℕ, Some, codes, decimal, length, option_map};
-ghost use Rattle.hex.specs.Hex.{encode_lower};
 ghost use Rattle.redl_io.specs.Sink.{Puts};
 ghost use Rattle.redl_join.specs.LastWords.{last_words, words_on};
 ghost use Rattle.redl_page.specs.Page.{body, body_head, body_start, end_text, head_text, heading_attributes, lists, page_text, rank_attribute, reviewer_list, title_attribute, title_piece};
@@ -9,12 +8,14 @@ ghost use Rattle.redl_html.specs.Pieces.{piece_text, pieces_text};
 ghost use Rattle.redl_page.specs.PageViews.{heading_view, shown_by, skin_view};
 
 use crate::changes::{put_attribute, put_changes};
+use crate::item::ItemWords;
 use crate::reviewers::put_reviewers;
 use itoa::Buffer;
 use redl_html::put_escaped;
 use redl_index::Index;
-use redl_io::{Failed, Sink, Text, put_piece, put_pieces};
+use redl_io::{Failed, Sink, put_piece, put_pieces};
 use redl_join::{Book, LastWords};
+use redl_journal::digest_digits;
 use redl_opc::Package;
 use redl_page_stories::put_document;
 
@@ -48,8 +49,8 @@ pub struct Shown<'a, 'b> {
     pub index: &'a Index,
     /// Whether each revision is locked, in the order of their numbers.
     pub locked: &'a [bool],
-    /// What each revision changes, in words, in the order of their numbers. A text without bytes says nothing.
-    pub said: &'a [Text],
+    /// What is said of each revision beside its row, in the order of their numbers.
+    pub said: &'a [ItemWords],
     /// The joined book.
     pub book: &'a Book,
     /// The SHA-256 of the text of the package.
@@ -75,8 +76,8 @@ const AFTER_SCRIPT: &[u8] = b"</script>\n</body>\n</html>\n";
 /// Puts the page: one document of HTML with the stories of the package, an element for each member of a revision, the list of the
 /// revisions with each reviewer's last words, and the reviewers.
 ///
-/// `words` are the last words of the book. `locked` says of each revision whether it is locked, and `said` what it changes. It goes once over the package and
-/// once over the revisions, and takes no memory. `Failed` comes only where the sink failed, which then has only a prefix.
+/// `words` are the last words of the book. `locked` says of each revision whether it is locked, and `said` what is said of it. It goes once over the
+/// package and once over the revisions, and takes no memory. `Failed` comes only where the sink failed, which then has only a prefix.
 pub fn write_page<K: Sink>(
     skin: &Skin<'_>,
     page: &Shown<'_, '_>,
@@ -185,7 +186,7 @@ fn put_body_start<K: Sink>(digest: &[u8; 32], count: u32, out: &mut K) -> Result
     ensures { Puts K.told K.faults K.settled K.lenders out.old out.new (pieces_text (body_start digest.now count)) result }
 {
     put_piece(b"</style>\n</head>\n<body data-document=\"", out)?;
-    put_escaped(&digits(digest), out)?;
+    put_escaped(&digest_digits(digest), out)?;
     put_count(count, out)
 }
 
@@ -195,15 +196,6 @@ fn put_count<K: Sink>(count: u32, out: &mut K) -> Result<(), Failed>
     let mut buffer = Buffer::new();
     let digits = buffer.format(count).as_bytes();
     put_pieces(&[b"\" data-revisions=\"".as_slice(), digits], out)
-}
-
-// A digest in lower-case hexadecimal digits.
-fn digits(digest: &[u8; 32]) -> [u8; 64]
-    ensures { result ≡ encode_lower digest.now }
-{
-    let mut digits = [0; 64];
-    hex::encode_to_slice(digest, &mut digits).unwrap();
-    digits
 }
 
 fn put_lists<K: Sink>(

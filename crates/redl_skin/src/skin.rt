@@ -2,7 +2,7 @@
 
 /// The security policy of the page: its own style and script alone, and nothing is ever fetched.
 pub const POLICY: &str =
-    "default-src 'none'; script-src 'sha256-oADq5vwEyWcrGuuomWvmcQwIXd9disD1R5e4Xko2L2A='; style-src 'sha256-KshcZlEQkCT/MApN3rZ2J3HLKE5I4sDztOL4gIoGzUI='; base-uri 'none'; form-action 'none'; require-trusted-types-for 'script'; trusted-types 'none'";
+    "default-src 'none'; script-src 'sha256-Blw0bvs/6JTDNprsVTWDMUS40sL9sUWm5EzlTJm+8Q4='; style-src 'sha256-NE5vqeLZZYP9NqDPmXL67q/HlFo8gqtzWir2mCkDT5c='; base-uri 'none'; form-action 'none'; require-trusted-types-for 'script'; trusted-types 'none'";
 
 /// The style sheet of the page.
 pub const STYLE: &str = "/* colours, and what all elements share */
@@ -167,7 +167,10 @@ aside > ol > .room { padding: 0; border: 0; cursor: default; }
 aside li[aria-current] { border-left-color: var(--focus); background: color-mix(in srgb, var(--focus) 7%, transparent); }
 aside li p { margin: 0 0 .2rem; color: var(--soft); overflow-wrap: anywhere; }
 .head { display: flex; justify-content: space-between; gap: .6em; }
-.head b, li .words, li .changed { color: var(--ink); }
+.head b, li .words, li .changed, li .clause { color: var(--ink); }
+li :is(.clause, .place) { display: inline-block; margin-inline-end: .8em; }
+.clause { font-weight: 600; }
+.clause::before { content: \"clause \"; color: var(--soft); font-weight: 400; }
 .who { color: var(--author); font-weight: 600; }
 .verdict { white-space: nowrap; }
 [data-verdict=\"accept\"] .verdict { color: var(--yes); }
@@ -312,8 +315,16 @@ const kindsOf = rows.map((row) => row.dataset.kind);
 const authorsOf = rows.map((row) => row.dataset.author);
 const verdictsOf = rows.map((row) => row.dataset.verdict);
 const lockedAt = rows.map((row) => row.dataset.locked === \"yes\");
-// What a change of properties changes, in words, and nothing of any other change.
-const changesOf = rows.map((row) => (row.firstElementChild?.className === \"changed\" ? row.firstElementChild.textContent : \"\"));
+// The clause of each change, its place where that isn't the document, and what a change of properties changes, in words.
+const clausesOf = rows.map((row) => saidIn(row, \"clause\"));
+const placeNames = rows.map((row) => saidIn(row, \"place\"));
+const changesOf = rows.map((row) => saidIn(row, \"changed\"));
+
+// What a row says in an element of this class, or nothing.
+function saidIn(row, name) {
+  for (const it of row.children) if (it.className === name) return it.textContent;
+  return \"\";
+}
 
 // The bars around the document and the list: what a reviewer presses and types in, and what they are told.
 
@@ -744,7 +755,8 @@ function describe(place) {
 function wordsOfChange(at) {
   const { date } = rows[at].dataset;
   const kind = KINDS[kindsOf[at]] + (changesOf[at] && \" (\" + spelled(changesOf[at]) + \")\");
-  return \"Change \" + (at + 1) + \": \" + kind + \" by \" + spelled(authorsOf[at] || \"no name\") + (date === \"-\" ? \"\" : \", \" + date.slice(0, 10));
+  const where = [clausesOf[at], placeNames[at]].filter((it) => it).map((it) => \", \" + spelled(it)).join(\"\");
+  return \"Change \" + (at + 1) + where + \": \" + kind + \" by \" + spelled(authorsOf[at] || \"no name\") + (date === \"-\" ? \"\" : \", \" + date.slice(0, 10));
 }
 
 // The parts of the document: the groups of a long story, and the other stories. What is near sight is dressed, and shows words
@@ -945,6 +957,7 @@ function fill(row) {
     make(\"p\", { className: \"head\" },
       make(\"span\", {}, make(\"b\", { textContent: at + 1 }), \" \" + KINDS[kindsOf[at]] + \" by \", whoOf(at), date === \"-\" ? \"\" : \", \" + date.slice(0, 10)),
       make(\"span\", { className: \"verdict\", textContent: verdict === \"open\" ? \"\" : DONE[verdict] || verdict })),
+    ...row.querySelectorAll(\":scope > :is(.clause, .place)\"),
     excerpt(row));
   const said = saysOn(at);
   row.querySelectorAll(\":scope > p[data-word]\").forEach((it, place) => nameApart(it, said[place].who));
@@ -1613,7 +1626,8 @@ function recount() {
   acceptAll.disabled = rejectAll.disabled = count === 0;
 }
 
-// The text in which a change is searched: its kind, what it changes, its author, who spoke of it, and the paragraph or row that it stands in.
+// The text in which a change is searched: its kind, its clause, its place, what it changes, its author, who spoke of it, and the paragraph
+// or row that it stands in.
 
 const searchTexts = [];
 const blockTexts = new Map();
@@ -1626,7 +1640,7 @@ function searchText(at) {
   if (searchTexts[at] === undefined) {
     const blocks = new Set(placesOf(rows[at]).map(blockOf).filter((it) => it));
     const said = saysOn(at).map((it) => it.who);
-    searchTexts[at] = plainText([KINDS[kindsOf[at]], changesOf[at], authorsOf[at], ...said].join(\" \")) + \" \" + Array.from(blocks, textOfBlock).join(\" \");
+    searchTexts[at] = plainText([KINDS[kindsOf[at]], clausesOf[at], placeNames[at], changesOf[at], authorsOf[at], ...said].join(\" \")) + \" \" + Array.from(blocks, textOfBlock).join(\" \");
   }
   return searchTexts[at];
 }

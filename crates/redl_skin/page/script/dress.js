@@ -25,5 +25,6 @@ function describe(place) {
 function wordsOfChange(at) {
   const { date } = rows[at].dataset;
   const kind = KINDS[kindsOf[at]] + (changesOf[at] && " (" + spelled(changesOf[at]) + ")");
-  return "Change " + (at + 1) + ": " + kind + " by " + spelled(authorsOf[at] || "no name") + (date === "-" ? "" : ", " + date.slice(0, 10));
+  const where = [clausesOf[at], placeNames[at]].filter((it) => it).map((it) => ", " + spelled(it)).join("");
+  return "Change " + (at + 1) + where + ": " + kind + " by " + spelled(authorsOf[at] || "no name") + (date === "-" ? "" : ", " + date.slice(0, 10));
 }

@@ -4,5 +4,13 @@ const kindsOf = rows.map((row) => row.dataset.kind);
 const authorsOf = rows.map((row) => row.dataset.author);
 const verdictsOf = rows.map((row) => row.dataset.verdict);
 const lockedAt = rows.map((row) => row.dataset.locked === "yes");
-// What a change of properties changes, in words, and nothing of any other change.
-const changesOf = rows.map((row) => (row.firstElementChild?.className === "changed" ? row.firstElementChild.textContent : ""));
+// The clause of each change, its place where that isn't the document, and what a change of properties changes, in words.
+const clausesOf = rows.map((row) => saidIn(row, "clause"));
+const placeNames = rows.map((row) => saidIn(row, "place"));
+const changesOf = rows.map((row) => saidIn(row, "changed"));
+
+// What a row says in an element of this class, or nothing.
+function saidIn(row, name) {
+  for (const it of row.children) if (it.className === name) return it.textContent;
+  return "";
+}

@@ -76,7 +76,8 @@ function recount() {
   acceptAll.disabled = rejectAll.disabled = count === 0;
 }
 
-// The text in which a change is searched: its kind, what it changes, its author, who spoke of it, and the paragraph or row that it stands in.
+// The text in which a change is searched: its kind, its clause, its place, what it changes, its author, who spoke of it, and the paragraph
+// or row that it stands in.
 
 const searchTexts = [];
 const blockTexts = new Map();
@@ -89,7 +90,7 @@ function searchText(at) {
   if (searchTexts[at] === undefined) {
     const blocks = new Set(placesOf(rows[at]).map(blockOf).filter((it) => it));
     const said = saysOn(at).map((it) => it.who);
-    searchTexts[at] = plainText([KINDS[kindsOf[at]], changesOf[at], authorsOf[at], ...said].join(" ")) + " " + Array.from(blocks, textOfBlock).join(" ");
+    searchTexts[at] = plainText([KINDS[kindsOf[at]], clausesOf[at], placeNames[at], changesOf[at], authorsOf[at], ...said].join(" ")) + " " + Array.from(blocks, textOfBlock).join(" ");
   }
   return searchTexts[at];
 }

@@ -24,6 +24,7 @@ function fill(row) {
     make("p", { className: "head" },
       make("span", {}, make("b", { textContent: at + 1 }), " " + KINDS[kindsOf[at]] + " by ", whoOf(at), date === "-" ? "" : ", " + date.slice(0, 10)),
       make("span", { className: "verdict", textContent: verdict === "open" ? "" : DONE[verdict] || verdict })),
+    ...row.querySelectorAll(":scope > :is(.clause, .place)"),
     excerpt(row));
   const said = saysOn(at);
   row.querySelectorAll(":scope > p[data-word]").forEach((it, place) => nameApart(it, said[place].who));

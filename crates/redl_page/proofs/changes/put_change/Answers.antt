@@ -13,19 +13,19 @@ returns-in_err-put_change_state g c =
     puts_then (change-text c.args.revision.now c.args.verdict c.args.locked c.args.said.now (map deref c.args.words.now)) c.in_ok-put_change_head.ensures
     (puts_fails _ refl c.from_residual-in_err-put_change_state.ensures.1 c.in_err-put_change_state.ensures)
 
-pub returns-in_err-put_properties : goal.returns-in_err-put_properties
-returns-in_err-put_properties g c =
+pub returns-in_err-put_item_words : goal.returns-in_err-put_item_words
+returns-in_err-put_item_words g c =
     puts_then (change-text c.args.revision.now c.args.verdict c.args.locked c.args.said.now (map deref c.args.words.now)) c.in_ok-put_change_head.ensures
-    (puts_then refl c.in_ok-put_change_state.ensures (puts_fails _ refl c.from_residual-in_err-put_properties.ensures.1 c.in_err-put_properties.ensures))
+    (puts_then refl c.in_ok-put_change_state.ensures (puts_fails _ refl c.from_residual-in_err-put_item_words.ensures.1 c.in_err-put_item_words.ensures))
 
 pub returns-in_err-put_sayings : goal.returns-in_err-put_sayings
 returns-in_err-put_sayings g c =
     puts_then (change-text c.args.revision.now c.args.verdict c.args.locked c.args.said.now (map deref c.args.words.now)) c.in_ok-put_change_head.ensures
     (puts_then refl c.in_ok-put_change_state.ensures
-    (puts_then refl c.in_ok-put_properties.ensures (puts_fails _ refl c.from_residual-in_err-put_sayings.ensures.1 c.in_err-put_sayings.ensures)))
+    (puts_then refl c.in_ok-put_item_words.ensures (puts_fails _ refl c.from_residual-in_err-put_sayings.ensures.1 c.in_err-put_sayings.ensures)))
 
 pub returns : goal.returns
 returns g c =
     puts_then (change-text c.args.revision.now c.args.verdict c.args.locked c.args.said.now (map deref c.args.words.now)) c.in_ok-put_change_head.ensures
     (puts_then refl c.in_ok-put_change_state.ensures
-    (puts_then refl c.in_ok-put_properties.ensures (puts_then refl c.in_ok-put_sayings.ensures c.put_piece.ensures)))
+    (puts_then refl c.in_ok-put_item_words.ensures (puts_then refl c.in_ok-put_sayings.ensures c.put_piece.ensures)))

@@ -7,7 +7,7 @@ returns-in_err-put_piece g c = puts_fails _ refl c.from_residual.ensures.1 c.in_
 
 pub returns-in_err-put_escaped : goal.returns-in_err-put_escaped
 returns-in_err-put_escaped g c =
-    puts_then refl c.in_ok-put_piece.ensures (puts_fails _ refl c.from_residual-in_err-put_escaped.ensures.1 (rw c.digits.ensures at c.in_err-put_escaped.ensures))
+    puts_then refl c.in_ok-put_piece.ensures (puts_fails _ refl c.from_residual-in_err-put_escaped.ensures.1 (rw c.digest_digits.ensures at c.in_err-put_escaped.ensures))
 
 pub returns : goal.returns
-returns g c = puts_then refl c.in_ok-put_piece.ensures (puts_then refl (rw c.digits.ensures at c.in_ok-put_escaped.ensures) c.put_count.ensures)
+returns g c = puts_then refl c.in_ok-put_piece.ensures (puts_then refl (rw c.digest_digits.ensures at c.in_ok-put_escaped.ensures) c.put_count.ensures)

@@ -1,4 +1,4 @@
-use Rattle.std.proofs.Common.{ap, sym, ◌∙◌, ◌++◌, [], None, Some, append-nil, option_map, refl}
+use Rattle.std.proofs.Common.{ap, sym, ◌∙◌, [], Some, append-nil, option_map, refl}
 use Rattle.redl_io.proofs.Puts.{so_far_begins, so_far_goes_on, so_far_stops, so_far_ends}
 use Rattle.redl_page.specs.Reviewers.{item_at_end, item_before, items_from}
 use Rattle.redl_html.specs.Pieces.{pieces_text}

@@ -1,0 +1,14 @@
+//! What is said of a revision in its item.
+
+use redl_io::Text;
+
+/// What is said of a revision beside its row. A text without bytes says nothing.
+#[derive(Drop)]
+pub struct ItemWords {
+    /// The clause that it is in.
+    pub clause: Text,
+    /// Where it is.
+    pub place: Text,
+    /// What it changes.
+    pub changed: Text,
+}
