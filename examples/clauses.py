@@ -4,8 +4,8 @@
     python3 clauses.py PACKAGE paragraphs      the number of each paragraph of the document, or an empty line
 
 A revision in a paragraph without a number has `before` and the last number before it, or None. Changes are counted as a reader sees
-them while they are shown: inserted and deleted paragraphs too. It shares no code with the program, in which no listing has a clause so
-far. It looks at each thing anew as often as it needs it, so it is slow and short.
+them while they are shown: inserted and deleted paragraphs too. It shares no code with the program. It looks at each thing anew as
+often as it needs it, so it is slow and short.
 """
 import re
 import sys
@@ -15,6 +15,7 @@ import texts
 
 UNITS = ("tab", "br", "cr", "noBreakHyphen", "softHyphen", "sym", "ptab", "footnoteReference", "endnoteReference", "drawing", "pict", "object")
 ROMAN = ((1000, "m"), (900, "cm"), (500, "d"), (400, "cd"), (100, "c"), (90, "xc"), (50, "l"), (40, "xl"), (10, "x"), (9, "ix"), (5, "v"), (4, "iv"), (1, "i"))
+KEPT = []
 # Of a row, a cell or a table.
 HOLDERS = ("row", "cell", "table-props", "except-props", "row-props", "cell-props")
 
@@ -111,27 +112,27 @@ class Lists:
         override = self.start_override(num, level)
         return override if override is not None else number(value(self.level(num, level), "start")) or 0
 
-    def chain(self, id):
-        """A style, the one that it is based on, and so on, until one is missing or comes a second time."""
-        found = []
-        while id is not None:
-            style = next((it for it in self.styles if it.attribute("styleId") == id), None)
-            if style is None or style in found:
-                break
-            found.append(style)
-            id = value(style, "basedOn")
-        return found
+    def style(self, id):
+        return next((it for it in self.styles if id is not None and it.attribute("styleId") == id), None)
 
     def default_style(self):
         is_default = lambda it: it.attribute("type") == "paragraph" and it.attribute("default") is not None and is_on(it.attribute("default"))
-        return next((it.attribute("styleId") for it in self.styles if is_default(it)), None)
+        return next((it for it in self.styles if is_default(it)), None)
+
+    def chain(self, style):
+        """A style, the one that it is based on, and so on, until one is missing or comes a second time."""
+        found = []
+        while style is not None and style not in found:
+            found.append(style)
+            style = self.style(value(style, "basedOn"))
+        return found
 
     def found(self, paragraph):
         """The num and the level of a paragraph, or None."""
         properties = first(paragraph.kids, "pPr")
         own = first(properties.kids, "numPr") if properties else None
         style = value(properties, "pStyle")
-        chain = self.chain(self.default_style() if style is None else style)
+        chain = self.chain(self.default_style() if style is None else self.style(style))
         said = [(it, first(first(it.kids, "pPr").kids, "numPr") if first(it.kids, "pPr") else None) for it in chain]
         ids = [number(value(own, "numId"))] + [number(value(it, "numId")) for _, it in said]
         num = self.num(next((id for id in ids if id is not None), None))
@@ -172,13 +173,18 @@ def numeral(form, examples, count):
     return str(count)
 
 
+def short(text, most=200):
+    """A text of at most so many bytes; a longer one counts as none."""
+    return text if text and len(text.encode()) <= most else ""
+
+
 def form_of(level):
     """The form of a level and its examples; where it has none of its own, the first one below it."""
     if level is None:
         return None, None
     said = first(level.kids, "numFmt")
     said = said if said is not None else next((it for it in reading.elements(level.kids) if it.is_w("numFmt")), None)
-    return (None, None) if said is None else (said.attribute("val"), said.attribute("format"))
+    return (None, None) if said is None else (said.attribute("val"), short(said.attribute("format"), 50))
 
 
 def text_of(lists, num, k, counts):
@@ -186,11 +192,11 @@ def text_of(lists, num, k, counts):
     level = lists.level(num, k)
     said = first(level.kids, "lvlText")
     null = None if said is None else said.attribute("null")
-    text = "" if said is None or (null is not None and is_on(null)) else said.attribute("val") or ""
+    text = "" if said is None or (null is not None and is_on(null)) else short(said.attribute("val"))
     if form_of(level)[0] == "bullet":
         if not text and first(level.kids, "lvlPicBulletId") is not None:
             return "\u2022"
-        return re.sub("[\ue000-\uf8ff]", "\u2022", text)
+        return short(re.sub("[\ue000-\uf8ff]", "\u2022", text))
     legal = first(level.kids, "isLgl")
     is_legal = legal is not None and is_on(legal.attribute("val"))
 
@@ -203,7 +209,7 @@ def text_of(lists, num, k, counts):
             form = "decimal"
         return numeral(form, examples, counts[n])
 
-    return re.sub("%([1-9])", count, text)
+    return short(re.sub("%([1-9])", count, text))
 
 
 # The counting
@@ -294,6 +300,13 @@ def clauses(package):
             if element.number and element.role != "marker" and element.number not in found:
                 found[element.number] = clause(element, own, before)
     return found
+
+
+def clause_of(package, number):
+    """The clause of one revision, or None. Those of the last package are kept."""
+    if KEPT[:1] != [package]:
+        KEPT[:] = [package, clauses(package)]
+    return KEPT[1].get(number)
 
 
 def main():

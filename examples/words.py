@@ -8,6 +8,7 @@ import json
 import re
 import sys
 
+import clauses
 import formats
 import places
 import reading
@@ -154,7 +155,9 @@ def listed(package, entries, shown=None):
         inside = masked(shortened(words, 30)) + end
         if revision.kind in reading.CHANGES.values():
             inside = masked(formats.line(changed(package, number))) + end + masked(shortened(words, 30))
-        quoted = masked(near_end(before)) + begin + inside + masked(shortened(after, 10))
+        clause = clauses.clause_of(package, number)
+        quoted = "" if clause is None else masked(clause) + " "
+        quoted += masked(near_end(before)) + begin + inside + masked(shortened(after, 10))
         line = "%5d %-12s %-8s %-13s %s" % (number, revision.kind, verdict, shortened(masked(revision.author), 12), quoted)
         place = places.place_of(package, number)
         line += "" if place == "document" else "  " + place
@@ -173,6 +176,7 @@ def full(package, entries):
         found = changed(package, row["number"])
         row["changed"] = (found or [])[: formats.MOST]
         row["changed_more"] = None if found is None else max(0, len(found) - formats.MOST)
+        row["clause"] = clauses.clause_of(package, row["number"])
         row["place"] = places.place_of(package, row["number"])
         row["id"] = members[0].attribute("id") if members else None
         row["says"] = [{"reviewer": entry.reviewer, "word": entry.word} for entry in says_of(row["number"], entries)]

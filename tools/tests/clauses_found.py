@@ -1,10 +1,14 @@
 """The numbers of clauses by the second writer, examples/clauses.py, on rows that were worked by hand (ECMA-376 Part 1, 17.9).
 
-    python3 clauses_found.py EXAMPLES
+    python3 clauses_found.py EXAMPLES [PROGRAM]
 
-Each row has what a list says, the paragraphs, and their numbers. Each case is a line, as common has it.
+Each row has what a list says, the paragraphs, and their numbers. Each case is a line, as common has it. With a program each row is listed by
+it too, with a change in each paragraph: its clauses are to be those of the second writer.
 """
+import json
+import subprocess
 import sys
+import tempfile
 
 sys.dont_write_bytecode = True
 sys.path.insert(0, sys.argv[1])
@@ -13,7 +17,7 @@ import reading
 
 W = 'xmlns:w="http://schemas.openxmlformats.org/wordprocessingml/2006/main" xmlns:mc="http://schemas.openxmlformats.org/markup-compatibility/2006"'
 RELATIONS = '<Relationships xmlns="x"><Relationship Type="http://x/styles" Target="styles.xml"/><Relationship Type="http://x/numbering" Target="/word/numbering.xml"/></Relationships>'
-PART = '<pkg:part pkg:name="%s"><pkg:xmlData>%s</pkg:xmlData></pkg:part>'
+PART = '<pkg:part pkg:name="%s" pkg:contentType="application/xml"><pkg:xmlData>%s</pkg:xmlData></pkg:part>'
 PACKAGE = '<pkg:package xmlns:pkg="http://schemas.microsoft.com/office/2006/xmlPackage">%s</pkg:package>'
 WHO = 'w:author="Ann" w:date="2026-01-01T00:00:00Z"'
 
@@ -71,6 +75,7 @@ def paras(*levels):
 
 THREE = list_of(level(0, "%1."), level(1, "%1.%2"), level(2, "(%3)", "lowerLetter"))
 BOX = "<w:p><w:pPr>%s</w:pPr><w:r><mc:AlternateContent><mc:Choice><w:drawing><w:txbxContent>%s</w:txbxContent></w:drawing></mc:Choice><mc:Fallback><w:pict><w:txbxContent>%s</w:txbxContent></w:pict></mc:Fallback></mc:AlternateContent></w:r></w:p>"
+SECTION = "<w:p><w:pPr>%s<w:sectPr/></w:pPr>%s</w:p>"
 HEADS = style("N", more='w:type="paragraph" w:default="1"') + style("H1", props(1), "N") + style("H2", props(None, 1), "H1")
 CHOICE = '<mc:AlternateContent><mc:Choice><w:numFmt w:val="custom" w:format="001, 002, 003, ..."/></mc:Choice><mc:Fallback><w:numFmt w:val="decimal"/></mc:Fallback></mc:AlternateContent>'
 
@@ -111,14 +116,20 @@ ROWS = [
     ("no level is the first one", THREE + num(), "", para(props(1)), "1."),
     ("styles", THREE + num(), HEADS, para(style="H1") + para(style="H2") + para() + para(style="H2"), "1.|1.1||1.2"),
     ("a default style", THREE + num(), style("N", props(1), more='w:type="paragraph" w:default="on"'), para() + para(style="none"), "1.|"),
+    ("a default style without an id", THREE + num(), '<w:style w:type="paragraph" w:default="1"><w:pPr>%s</w:pPr></w:style>' % props(1), para(), "1."),
     ("own properties before those of a style", THREE + num() + num(2), HEADS, para(props(0), style="H1") + para(props(2), style="H2") + para(props(None, 2), style="H1"), "|1.1|(a)"),
     ("a style says none", THREE + num(), HEADS + style("No", props(0), "H1"), para(style="No"), ""),
     ("the level that names a style", list_of(level(0, "%1."), level(1, "%1.%2", more='<w:pStyle w:val="A"/>')) + num(), style("A", props(1, 0)) + style("B", "", "A"), para(style="A") + para(style="B") + para(props(None, 0), style="A"), "1.1|1.2|2."),
     ("styles in a ring", THREE + num(), style("A", props(None, 1), "B") + style("B", props(1), "A"), para(style="A") + para(style="B"), "1.1|1.2"),
     ("a ring without a num", THREE + num(), style("A", "", "B") + style("B", "", "A"), para(style="A"), ""),
+    ("a text of 201 bytes", list_of(level(0, "%1" + "x" * 199)) + num(), "", paras(0), ""),
+    ("a number of 200 bytes", list_of(level(0, "%1" * 66 + "xy", start=100)) + num(), "", paras(0), "100" * 66 + "xy"),
+    ("a number of 201 bytes", list_of(level(0, "%1" * 66 + "xyz", start=100)) + num(), "", paras(0), ""),
+    ("examples of 50 and of 51 bytes", list_of(level(0, "%1", 'custom" w:format="' + "0" * 49 + "1"), level(1, "%2", 'custom" w:format="' + "0" * 50 + "1")) + num(), "", paras(0, 1), "0" * 49 + "1|1"),
     ("text boxes count by themselves", THREE + num(), "", paras(0) + BOX % (props(1, 0), paras(0, 1), paras(0, 1)) + paras(0), "1.|2.|1.|1.1|1.|1.1|3."),
     ("the end of a section", THREE + num(), "", paras(0) + para(props(1, 0) + "<w:sectPr/>", "") + para(props(1, 0) + "<w:sectPr/>") + paras(0), "1.||2.|3."),
-    ("the end of a section with a break", THREE + num(), "", "<w:p><w:pPr>%s<w:sectPr/></w:pPr><w:r><w:br/></w:r></w:p>" % props(1, 0) + paras(0), "1.|2."),
+    ("the end of a section with a break", THREE + num(), "", SECTION % (props(1, 0), "<w:r><w:br/></w:r>") + paras(0), "1.|2."),
+    ("the end of a section with a sign", THREE + num(), "", SECTION % (props(1, 0), "<w:r><w:softHyphen/></w:r>") + paras(0), "1.|2."),
     ("paragraphs without text", THREE + num(), "", para(props(1, 0), "") + paras(0), "1.|2."),
     ("deleted and inserted paragraphs", THREE + num(), "", para(props(1, 0), mark="<w:rPr><w:del %s/></w:rPr>" % WHO) + para(props(1, 0), mark="<w:rPr><w:ins %s/></w:rPr>" % WHO) + paras(0), "1.|2.|3."),
     ("cells and content controls", THREE + num(), "", "<w:tbl><w:tr><w:tc>%s</w:tc><w:tc>%s</w:tc></w:tr></w:tbl><w:sdt><w:sdtContent>%s</w:sdtContent></w:sdt>" % (paras(0), paras(0), paras(0)), "1.|2.|3."),
@@ -145,6 +156,9 @@ MEMBERS = [
     ("of a row whose first paragraph has none", paras(0) + "<w:tbl>%s</w:tbl>" % (ROW % (WHO, para(), paras(1))), "", ["before 1."]),
     ("of a table and of a cell", "<w:tbl><w:tblPr><w:tblPrChange %s><w:tblPr/></w:tblPrChange></w:tblPr><w:tr><w:tc>%s</w:tc><w:tc><w:tcPr><w:cellDel %s/></w:tcPr>%s</w:tc></w:tr></w:tbl>" % (WHO, paras(0), WHO, paras(0)), "", ["1.", "2."]),
     ("of the document's section", paras(0) + "<w:sectPr><w:sectPrChange %s><w:sectPr/></w:sectPrChange></w:sectPr>" % WHO, "", ["before 1."]),
+    ("behind the end of a section", SECTION % (props(1, 0), "") + para(props(1, 0)).replace("</w:p>", INS + "</w:p>"), "", ["1."]),
+    ("behind the end of a section with a drawing", SECTION % (props(1, 0), "<w:r><w:drawing/></w:r>") + para(props(1, 0)).replace("</w:p>", INS + "</w:p>"), "", ["2."]),
+    ("behind the end of a section with a note", SECTION % (props(1, 0), '<w:r><w:footnoteReference w:id="2"/></w:r>') + para(props(1, 0)).replace("</w:p>", INS + "</w:p>"), "", ["2."]),
     ("in a text box", paras(0, 0) + BOX % (props(1, 0), "<w:p>%s</w:p>" % INS + paras(0) + "<w:p>%s</w:p>" % INS, ""), "", [None, "before 1."]),
     ("behind a text box", BOX % (props(1, 0), paras(0, 0), "") + "<w:p>%s</w:p>" % INS, "", ["before 1."]),
     ("in a header", paras(0, 0), "<w:p>%s</w:p>" % INS + para(props(1, 0)).replace("</w:p>", INS + "</w:p>"), [None, "1."]),
@@ -164,3 +178,22 @@ for form, examples, count, wanted in FORMS:
 for name, body, header, wanted in MEMBERS:
     found = clauses.clauses(package(THREE + num(), "", body, header))
     told("a change " + name, [found[at] for at in sorted(found)], wanted)
+
+
+def listed(read):
+    """The clauses that the program lists."""
+    with tempfile.NamedTemporaryFile("w", suffix=".xml", newline="", encoding="utf-8") as file:
+        file.write(read.text)
+        file.flush()
+        rows = subprocess.run([sys.argv[2], "list", file.name, "--format", "full"], capture_output=True, check=True).stdout
+    return [row["clause"] for row in json.loads(rows)]
+
+
+for name, read in (
+    [(name, package(numbering, styles, body.replace("</w:p>", INS + "</w:p>"))) for name, numbering, styles, body, _ in ROWS]
+    + [("a change " + name, package(THREE + num(), "", body, header)) for name, body, header, _ in MEMBERS]
+    if sys.argv[2:]
+    else []
+):
+    found = clauses.clauses(read)
+    told("listed: " + name, listed(read), [found[at] for at in sorted(found)])

@@ -15,6 +15,7 @@ import time
 import uno
 from com.sun.star.beans import PropertyValue
 from com.sun.star.connection import NoConnectException
+from com.sun.star.lang import DisposedException
 
 FILTER = "MS Word 2007 XML"
 
@@ -89,20 +90,30 @@ def decide(office, document, word, choice):
                 passed += 1
 
 
+def carry_out(office, folder, source, plan):
+    """Decides and stores one document, and tells what was done."""
+    out, _, what = plan.partition("=")
+    word, _, choice = what.partition(":")
+    document = office.open(source)
+    before = len(changes_of(document))
+    decide(office, document, word, choice)
+    after = len(changes_of(document))
+    path = os.path.abspath(os.path.join(folder, out + ".docx"))
+    document.storeToURL("file://" + path, (value("FilterName", FILTER),))
+    document.close(True)
+    print("%s\t%s\t%d\t%d" % (out, what, before, after), flush=True)
+
+
 def main(folder, source, *plans):
     office = Office(folder)
     try:
         for plan in plans:
-            out, _, what = plan.partition("=")
-            word, _, choice = what.partition(":")
-            document = office.open(source)
-            before = len(changes_of(document))
-            decide(office, document, word, choice)
-            after = len(changes_of(document))
-            path = os.path.abspath(os.path.join(folder, out + ".docx"))
-            document.storeToURL("file://" + path, (value("FilterName", FILTER),))
-            document.close(True)
-            print("%s\t%s\t%d\t%d" % (out, what, before, after), flush=True)
+            try:
+                carry_out(office, folder, source, plan)
+            except DisposedException:  # (it went down, as it does at times: once more with a new one)
+                office.close()
+                office = Office(folder)
+                carry_out(office, folder, source, plan)
     finally:
         office.close()
 

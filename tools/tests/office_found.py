@@ -3,10 +3,11 @@
 
     office_found.py PROGRAM FOLDER
 
-FOLDER has contract.docx, what LibreOffice stored of it with nothing decided (none.docx), with all of it (accepted.docx,
-rejected.docx), with one author's changes (author.docx) and with each change by itself (accept-N.docx, reject-N.docx).
+FOLDER has contract.docx, and what LibreOffice stored of it: with nothing decided (none.docx), with all accepted or rejected
+(accept-all.docx), with the changes of one author (accept-of-Ann.docx), and with each change by itself (accept-1.docx).
 LibreOffice drops some kinds of changes when it stores, so what is found is compared with what none.docx gives. It shows the two
-ends of a move, and an insertion round a deletion, as changes of their own; to decide one of these alone is half a decision.
+ends of a move, and an insertion round a deletion, as changes of their own; to decide one of these alone is half a decision, and
+so is to decide Cara Lee's changes, since a part of an insertion stays with the deletion in it, which is another's.
 """
 import os
 import re
@@ -15,7 +16,9 @@ import sys
 from came_back import Desk, tell
 from opc.unpack import unpack
 
-HALVES = 4
+# The files of decisions on one change and on those of one author, and how many with one word are half decisions.
+CASES = {"one change": (r"-\d+", 4), "one author": ("-of-.*", 1)}
+WORDS = ("accept", "reject")
 
 
 def package_of(folder, name):
@@ -28,36 +31,43 @@ def new_words(before, after):
     return {after.words[rev] for rev in after.words if before.words[rev] == "open" and after.words[rev] != "open"}
 
 
-def each_change(desk, folder, none):
-    halves = 0
-    for name in sorted(os.listdir(folder)):
-        found = re.fullmatch(r"(accept|reject)-(\d+)\.docx", name)
-        if not found:
-            continue
+def each_of(desk, folder, none, word, case):
+    """Decisions with one word on each change by itself, or on those of each author."""
+    pattern, most = CASES[case]
+    halves = []
+    for name in names(folder, word + pattern):
         answer = desk.answer(package_of(folder, name))
         if answer.differences:
-            halves += 1
+            halves.append(name)
             if len(answer.differences) > 1:
                 tell("LibreOffice, " + name, [one.line() for one in answer.differences])
         else:
             words = new_words(none, answer)
-            tell("LibreOffice, " + name, None if found.group(1) in words else "it finds %s" % (words or "nothing"))
-    tell("LibreOffice, %d halves of a change are refused" % halves, None if halves <= HALVES else "more than %d" % HALVES)
+            tell("LibreOffice, " + name, None if word in words else "it finds %s" % (words or "nothing"))
+    fault = None if len(halves) <= most else ", ".join(halves)
+    tell("LibreOffice, %s %s: %d refused, as half decisions are" % (word, case, len(halves)), fault)
+
+
+def all_changes(desk, folder, none, word):
+    answer = desk.answer(package_of(folder, word + "-all.docx"))
+    left = [rev for rev, found in answer.words.items() if found == "open"]
+    # (cells that were deleted or inserted are kept as they are by LibreOffice)
+    fault = None if not answer.differences and len(left) <= 2 and word in new_words(none, answer) else "%s are left" % left
+    tell("LibreOffice, %s all" % word, fault)
+
+
+def names(folder, pattern):
+    return sorted(name for name in os.listdir(folder) if re.fullmatch(pattern + r"\.docx", name))
 
 
 def main(path, folder):
     desk = Desk(path, package_of(folder, "contract.docx"))
     none = desk.answer(package_of(folder, "none.docx"))
     tell("LibreOffice, nothing decided", [one.line() for one in none.differences] or None)
-    for word in ("accept", "reject"):
-        answer = desk.answer(package_of(folder, word + "ed.docx"))
-        left = [rev for rev, found in answer.words.items() if found == "open"]
-        # (cells that were deleted or inserted are kept as they are by LibreOffice)
-        fault = None if not answer.differences and len(left) <= 2 and word in new_words(none, answer) else "%s are left" % left
-        tell("LibreOffice, all %sed" % word, fault)
-    answer = desk.answer(package_of(folder, "author.docx"))
-    tell("LibreOffice, one author", None if not answer.differences and "accept" in new_words(none, answer) else "not found")
-    each_change(desk, folder, none)
+    for word in WORDS:
+        all_changes(desk, folder, none, word)
+        for case in CASES:
+            each_of(desk, folder, none, word, case)
 
 
 if __name__ == "__main__":

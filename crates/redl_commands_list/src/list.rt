@@ -7,15 +7,17 @@ ghost use Rattle.redl_inputs.specs.Reading.{ReadsFiles, Reads};
 ghost use Rattle.redl_commands.specs.Views.{writing_view};
 ghost use Rattle.redl_inputs.specs.Views.{admission_view, result_view};
 ghost use Rattle.redl_commands.specs.Writing.{outcome_of};
-ghost use Rattle.redl_excerpts.specs.Details.{IsDetail, package_details};
+ghost use Rattle.redl_excerpts.specs.Details.{IsDetail};
+ghost use Rattle.redl_clauses.specs.Clauses.{numbered_details};
 ghost use Rattle.redl_formats.specs.Formats.{IsListed, first_named, without_named};
 ghost use Rattle.redl_listing.specs.Rows.{shown_rows, shows_details, told_rows};
 ghost use Rattle.redl_opc.specs.Shape.{parts_of};
 ghost use Rattle.redl_words.specs.Views.{onlys_view};
 
 use crate::shown::shown_revisions;
+use redl_clauses::numbered_details;
 use redl_commands::{Output, Writing};
-use redl_excerpts::{Detail, package_details};
+use redl_excerpts::Detail;
 use redl_index::Index;
 use redl_inputs::{Admitted, name_of, open_package, read_package};
 use redl_io::{Shelf, Text};
@@ -190,13 +192,13 @@ fn details_of(
     session: &Session,
     shown: &[bool],
 ) -> Result<Vec<Detail>, AllocError>
-    ensures value { IfOk result (λ details. details.items ≡ if shows_details name.now then package_details session.now.nodes session.now.revisions shown.now session.now.book else []) }
+    ensures value { IfOk result (λ details. details.items ≡ if shows_details name.now then numbered_details session.now.nodes session.now.revisions shown.now session.now.book else []) }
     ensures utf8 { IfOk result (λ details. All IsDetail details.items) }
 {
     if !shows_details(name) {
         return Ok(Vec::new(alloc));
     }
-    let details = package_details(
+    let details = numbered_details(
         alloc,
         session.package(),
         session.index(),

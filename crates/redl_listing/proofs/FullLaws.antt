@@ -22,10 +22,10 @@ use Rattle.redl_formats.specs.Fields.{date_token, json_date, verdict_name}
 abbrev end_tokens : Row → List Token
 end_tokens row = key (codes "verdict") ∷ string (verdict_name row.verdict) ∷ key (codes "words") ∷ string row.detail.words ∷ end_object ∷ []
 
--- those between the changed properties and the last words, with this many more, this date and this id, and what follows
-abbrev behind_with : Row → Option ℕ → Option ℤ → Option (List ℕ) → List Token → List Token
-behind_with row more seconds id rest =
-    key (codes "changed_more") ∷ more_token more ∷ key (codes "date") ∷ date_token seconds ∷ key (codes "id") ∷ id_token id
+-- those between the changed properties and the last words, with this many more, this clause, this date and this id, and what follows
+abbrev behind_with : Row → Option ℕ → Option (List ℕ) → Option ℤ → Option (List ℕ) → List Token → List Token
+behind_with row more clause seconds id rest =
+    key (codes "changed_more") ∷ more_token more ∷ key (codes "clause") ∷ id_token clause ∷ key (codes "date") ∷ date_token seconds ∷ key (codes "id") ∷ id_token id
     ∷ key (codes "kind") ∷ string (kind_name row.kind) ∷ key (codes "members") ∷ number (decimal row.members)
     ∷ key (codes "number") ∷ number (decimal row.number) ∷ key (codes "part") ∷ string row.part
     ∷ key (codes "place") ∷ string (place_text row.detail.place) ∷ key (codes "says") ∷ begin_array ∷ rest
@@ -40,16 +40,17 @@ tokens_with row rest =
 abbrev pub full_tokens : Row → List Token
 full_tokens row =
     tokens_with row (flat_map change_tokens row.detail.changed.changes
-    ++ (end_array ∷ behind_with row row.detail.changed.more row.seconds row.detail.id (flat_map said_tokens row.detail.says ++ (end_array ∷ end_tokens row))))
+    ++ (end_array ∷ behind_with row row.detail.changed.more row.detail.clause row.seconds row.detail.id (flat_map said_tokens row.detail.says ++ (end_array ∷ end_tokens row))))
 
--- the object of a row with this many more, this date and this id
-abbrev object_with : Row → Option ℕ → Option ℤ → Option (List ℕ) → Data
-object_with row more seconds id =
+-- the object of a row with this many more, this clause, this date and this id
+abbrev object_with : Row → Option ℕ → Option (List ℕ) → Option ℤ → Option (List ℕ) → Data
+object_with row more clause seconds id =
     object (member (codes "after") (value.string row.detail.after)
     (member (codes "author") (value.string row.author)
     (member (codes "before") (value.string row.detail.before)
     (member (codes "changed") (value.array (json_changed row.detail.changed.changes))
     (member (codes "changed_more") (json_more more)
+    (member (codes "clause") (json_id clause)
     (member (codes "date") (json_date seconds)
     (member (codes "id") (json_id id)
     (member (codes "kind") (value.string (kind_name row.kind))
@@ -59,7 +60,7 @@ object_with row more seconds id =
     (member (codes "place") (value.string (place_text row.detail.place))
     (member (codes "says") (value.array (json_says row.detail.says))
     (member (codes "verdict") (value.string (verdict_name row.verdict))
-    (member (codes "words") (value.string row.detail.words) no_members)))))))))))))))
+    (member (codes "words") (value.string row.detail.words) no_members))))))))))))))))
 
 -- the tokens of the last words, and what follows
 says_tokens : (says : List LastWord) (rest : List Token) → flat_map said_tokens says ++ (end_array ∷ rest) ≡ items_tokens (items_outline (json_says says)) ++ rest
@@ -67,37 +68,45 @@ says_tokens [] rest = refl
 says_tokens (said ∷ more) rest =
     ap (λ (ts : List Token). begin_object ∷ key (codes "reviewer") ∷ string said.reviewer ∷ key (codes "word") ∷ string (word_text said.word) ∷ end_object ∷ ts) (says_tokens more rest)
 
-tokens_are : (row : Row) (more : Option ℕ) (seconds : Option ℤ) (id : Option (List ℕ))
-    → tokens_with row (items_tokens (items_outline (json_changed row.detail.changed.changes)) ++ behind_with row more seconds id (items_tokens (items_outline (json_says row.detail.says)) ++ end_tokens row))
-    ≡ json_tokens (outline (object_with row more seconds id))
-tokens_are row None None None = refl
-tokens_are row None None (Some id) = refl
-tokens_are row None (Some seconds) None = refl
-tokens_are row None (Some seconds) (Some id) = refl
-tokens_are row (Some more) None None = refl
-tokens_are row (Some more) None (Some id) = refl
-tokens_are row (Some more) (Some seconds) None = refl
-tokens_are row (Some more) (Some seconds) (Some id) = refl
+tokens_are : (row : Row) (more : Option ℕ) (clause : Option (List ℕ)) (seconds : Option ℤ) (id : Option (List ℕ))
+    → tokens_with row (items_tokens (items_outline (json_changed row.detail.changed.changes)) ++ behind_with row more clause seconds id (items_tokens (items_outline (json_says row.detail.says)) ++ end_tokens row))
+    ≡ json_tokens (outline (object_with row more clause seconds id))
+tokens_are row None None None None = refl
+tokens_are row None None None (Some id) = refl
+tokens_are row None None (Some seconds) None = refl
+tokens_are row None None (Some seconds) (Some id) = refl
+tokens_are row None (Some clause) None None = refl
+tokens_are row None (Some clause) None (Some id) = refl
+tokens_are row None (Some clause) (Some seconds) None = refl
+tokens_are row None (Some clause) (Some seconds) (Some id) = refl
+tokens_are row (Some more) None None None = refl
+tokens_are row (Some more) None None (Some id) = refl
+tokens_are row (Some more) None (Some seconds) None = refl
+tokens_are row (Some more) None (Some seconds) (Some id) = refl
+tokens_are row (Some more) (Some clause) None None = refl
+tokens_are row (Some more) (Some clause) None (Some id) = refl
+tokens_are row (Some more) (Some clause) (Some seconds) None = refl
+tokens_are row (Some more) (Some clause) (Some seconds) (Some id) = refl
 
 -- printed, they are the row's object
 pub full-printed : (row : Row) → print (full_tokens row) ≡ full_row row
 unfolding full_row
 full-printed row =
-    let behind = behind_with row row.detail.changed.more row.seconds row.detail.id in
+    let behind = behind_with row row.detail.changed.more row.detail.clause row.seconds row.detail.id in
     let said = flat_map said_tokens row.detail.says ++ (end_array ∷ end_tokens row) in
     ap print (ap (tokens_with row) (changed_are row.detail.changed.changes (behind said)
     ∙ ap (λ (ts : List Token). items_tokens (items_outline (json_changed row.detail.changed.changes)) ++ behind ts) (says_tokens row.detail.says (end_tokens row)))
-    ∙ tokens_are row row.detail.changed.more row.seconds row.detail.id)
-    ∙ print-outline (object_with row row.detail.changed.more row.seconds row.detail.id)
+    ∙ tokens_are row row.detail.changed.more row.detail.clause row.seconds row.detail.id)
+    ∙ print-outline (object_with row row.detail.changed.more row.detail.clause row.seconds row.detail.id)
 
 -- ---- tokens one after another
 
--- those of seven members
-pub members_more : (tokens : List Token) (a b c d e f g h i j k l m n : Token)
-    → ((((((tokens ++ a ∷ b ∷ []) ++ c ∷ d ∷ []) ++ e ∷ f ∷ []) ++ g ∷ h ∷ []) ++ i ∷ j ∷ []) ++ k ∷ l ∷ []) ++ m ∷ n ∷ []
-    ≡ tokens ++ (a ∷ b ∷ c ∷ d ∷ e ∷ f ∷ g ∷ h ∷ i ∷ j ∷ k ∷ l ∷ m ∷ n ∷ [])
-members_more [] a b c d e f g h i j k l m n = refl
-members_more (token ∷ tokens) a b c d e f g h i j k l m n = ap (λ (ts : List Token). token ∷ ts) (members_more tokens a b c d e f g h i j k l m n)
+-- those of eight members
+pub members_more : (tokens : List Token) (a b c d e f g h i j k l m n o p : Token)
+    → (((((((tokens ++ a ∷ b ∷ []) ++ c ∷ d ∷ []) ++ e ∷ f ∷ []) ++ g ∷ h ∷ []) ++ i ∷ j ∷ []) ++ k ∷ l ∷ []) ++ m ∷ n ∷ []) ++ o ∷ p ∷ []
+    ≡ tokens ++ (a ∷ b ∷ c ∷ d ∷ e ∷ f ∷ g ∷ h ∷ i ∷ j ∷ k ∷ l ∷ m ∷ n ∷ o ∷ p ∷ [])
+members_more [] a b c d e f g h i j k l m n o p = refl
+members_more (token ∷ tokens) a b c d e f g h i j k l m n o p = ap (λ (ts : List Token). token ∷ ts) (members_more tokens a b c d e f g h i j k l m n o p)
 
 -- those of three members, and two lists
 pub front_more : (tokens changed behind : List Token) (a b c d e f : Token)

@@ -134,5 +134,6 @@ no_detail-is = record {
   before = IsUtf8-from_ascii [] IsAscii-nil;
   after = IsUtf8-from_ascii [] IsAscii-nil;
   id = tt;
+  clause = tt;
   says = λ k d h. absurd (omega (arith, h));
 }

@@ -13,7 +13,7 @@ use Rattle.redl_excerpts.specs.Phrases.{begun, heard_byte, paused}
 use Rattle.redl_listing.specs.declared.row.Row.{Row}
 use Rattle.redl_formats.specs.Fields.{newline}
 use Rattle.redl_terminal.specs.Masks.{hidden_length}
-use Rattle.redl_listing.specs.Words.{dots, numbered_columns, quoted, words_columns, words_row}
+use Rattle.redl_listing.specs.Words.{dots, in_paragraph, numbered_columns, quoted, words_columns, words_row}
 
 -- a disputed deletion in a footnote: both neighbours are cut, and who said what comes last
 deletion : Row
@@ -31,14 +31,15 @@ deletion = record {
     after = codes "fourteen days of delivery. The Buyer pay";
     id = None;
     changed = nothing_changed;
+    clause = Some (codes "4.2(a)");
     place = Footnote (Some (Count 3));
     says = record { reviewer = codes "Ann Gray"; word = word.Accept } ∷ record { reviewer = codes "Bob Hay"; word = word.Reject } ∷ [];
   };
 }
 
 row_disputed : words_row deletion
-    ≡ codes "   32 del          disputed Bob Hay       " ++ dots ++ codes "due within [-thirty-]fourteen d" ++ dots ++ codes "  footnote 3  Ann Gray: accept  Bob Hay: reject" ++ newline
-unfolding deletion words_row words_columns numbered_columns quoted hidden_length digits heard_byte paused begun
+    ≡ codes "   32 del          disputed Bob Hay       4.2(a) " ++ dots ++ codes "due within [-thirty-]fourteen d" ++ dots ++ codes "  footnote 3  Ann Gray: accept  Bob Hay: reject" ++ newline
+unfolding deletion words_row words_columns numbered_columns quoted in_paragraph hidden_length digits heard_byte paused begun
 row_disputed = refl
 
 -- an arrow (U+2192) and a space
@@ -55,9 +56,9 @@ change = record {
   seconds = None;
   part = codes "/word/document.xml";
   members = 1;
-  detail = record { words = codes "The Seller delivers the goods to the store"; before = []; after = []; id = None; changed = record { changes = []; more = Some 0; line = codes "alignment: not set " ++ (arrow ++ codes "justified") }; place = Document; says = [] };
+  detail = record { words = codes "The Seller delivers the goods to the store"; before = []; after = []; id = None; changed = record { changes = []; more = Some 0; line = codes "alignment: not set " ++ (arrow ++ codes "justified") }; clause = None; place = Document; says = [] };
 }
 
 row_change : words_row change ≡ codes "    7 para-props   accept   Dana Fox & C" ++ dots ++ codes " {=alignment: not set " ++ arrow ++ codes "justified=}The Seller delivers the goods " ++ dots ++ newline
-unfolding change arrow words_row words_columns numbered_columns quoted hidden_length digits heard_byte paused begun
+unfolding change arrow words_row words_columns numbered_columns quoted in_paragraph hidden_length digits heard_byte paused begun
 row_change = refl

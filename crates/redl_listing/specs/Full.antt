@@ -13,7 +13,7 @@ use Rattle.redl_listing.specs.Changed.{changed_tokens, json_changed, json_more, 
 use Rattle.redl_formats.specs.Formats.{array_of}
 use Rattle.redl_formats.specs.Fields.{date_token, json_date, verdict_name}
 
--- the own id of an element, or null
+-- a text that may be missing, as the own id of an element: null without one
 abbrev pub json_id : Option (List ℕ) → Data
 json_id None = null
 json_id (Some id) = string id
@@ -45,6 +45,7 @@ full_object row =
     (member (codes "before") (string row.detail.before)
     (member (codes "changed") (array (json_changed row.detail.changed.changes))
     (member (codes "changed_more") (json_more row.detail.changed.more)
+    (member (codes "clause") (json_id row.detail.clause)
     (member (codes "date") (json_date row.seconds)
     (member (codes "id") (json_id row.detail.id)
     (member (codes "kind") (string (kind_name row.kind))
@@ -54,12 +55,12 @@ full_object row =
     (member (codes "place") (string (place_text row.detail.place))
     (member (codes "says") (array (json_says row.detail.says))
     (member (codes "verdict") (string (verdict_name row.verdict))
-    (member (codes "words") (string row.detail.words) no_members)))))))))))))))
+    (member (codes "words") (string row.detail.words) no_members))))))))))))))))
 
 -- the members between the changed properties and the place, as they are written
 abbrev pub behind_tokens : Row → List Token
 behind_tokens row =
-    key (codes "changed_more") ∷ more_token row.detail.changed.more ∷ key (codes "date") ∷ date_token row.seconds ∷ key (codes "id") ∷ id_token row.detail.id ∷ key (codes "kind") ∷ string_token (kind_name row.kind)
+    key (codes "changed_more") ∷ more_token row.detail.changed.more ∷ key (codes "clause") ∷ id_token row.detail.clause ∷ key (codes "date") ∷ date_token row.seconds ∷ key (codes "id") ∷ id_token row.detail.id ∷ key (codes "kind") ∷ string_token (kind_name row.kind)
     ∷ key (codes "members") ∷ number_token (decimal row.members) ∷ key (codes "number") ∷ number_token (decimal row.number)
     ∷ key (codes "part") ∷ string_token row.part ∷ []
 

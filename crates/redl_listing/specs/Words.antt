@@ -2,7 +2,7 @@
 -- (our own rule). A terminal of 100 columns shows most of it: number 5, kind 12, verdict 8 and author 13 places, a space behind each; then
 -- 12 places before, 4 for the signs, 31 for the words, 11 behind. A row outside the document says where it is,
 -- and a disputed one who said what.
-use Rattle.std.specs.Prelude.{ℕ, ◌-◌, nat_le, false, List, [], ◌∷◌, ◌++◌, replicate, decimal, codes, if◌then◌else◌}
+use Rattle.std.specs.Prelude.{ℕ, ◌-◌, nat_le, false, List, [], ◌∷◌, ◌++◌, replicate, decimal, codes, Option, Some, None, if◌then◌else◌}
 use Rattle.std.specs.List.{flat_map}
 use Rattle.redl_excerpts.specs.Lines.{characters_in, without_characters}
 use Rattle.redl_excerpts.specs.Phrases.{heard, kept_text, nothing_heard}
@@ -87,10 +87,19 @@ abbrev pub outside : RevKind → Detail → List ℕ
 outside (Change prop) detail = masked Field (shortened 30 detail.words)
 outside _ detail = []
 
+-- the clause, if there is one, and a space behind it
+abbrev pub clause_text : Option (List ℕ) → List ℕ
+clause_text None = []
+clause_text (Some clause) = masked Field clause ++ space
+
 -- the words in their paragraph
-unfoldable pub quoted : Row → List ℕ
-quoted row =
+unfoldable pub in_paragraph : Row → List ℕ
+in_paragraph row =
     masked Field (near_end row.detail.before) ++ (opening row.kind ++ (inside row.kind row.detail ++ (closing row.kind ++ (outside row.kind row.detail ++ masked Field (shortened 10 row.detail.after)))))
+
+-- the clause, and the words in their paragraph
+unfoldable pub quoted : Row → List ℕ
+quoted row = clause_text row.detail.clause ++ in_paragraph row
 
 -- where it is, with two spaces before that, unless it is in the document
 abbrev pub place_words : StoryPlace → List ℕ

@@ -75,8 +75,9 @@ fn put_behind(object: &mut Writer, row: &Row) -> Result<(), AllocError>
     ensures before { OnOk result (object.new.before ≡ object.old.before) }
 {
     put_more(object, row.detail.changed.more)?;
+    put_if_any(object, "clause", &row.detail.clause)?;
     put_date(object, row.seconds)?;
-    put_id(object, &row.detail.id)?;
+    put_if_any(object, "id", &row.detail.id)?;
     put_text(object, "kind", row.kind.name().as_bytes())?;
     put_number(object, "members", row.members)?;
     put_number(object, "number", row.number)?;
@@ -84,16 +85,16 @@ fn put_behind(object: &mut Writer, row: &Row) -> Result<(), AllocError>
     Ok(())
 }
 
-// Writes the member that is the element's own id. `Err` means out of memory.
-fn put_id(object: &mut Writer, id: &Option<Text>) -> Result<(), AllocError>
-    requires { IfSome id.now IsUtf8 }
-    ensures written { OnOk result (object.new.tokens ≡ object.old.tokens ++ key_token (codes "id") ∷ id_token id.now ∷ []) }
+// Writes a member that is a text, or null without one. `Err` means out of memory.
+fn put_if_any(object: &mut Writer, name: &str, text: &Option<Text>) -> Result<(), AllocError>
+    requires { IfSome text.now IsUtf8 }
+    ensures written { OnOk result (object.new.tokens ≡ object.old.tokens ++ key_token name.now ∷ id_token text.now ∷ []) }
     ensures before { OnOk result (object.new.before ≡ object.old.before) }
 {
-    match id {
-        Some(id) => put_text(object, "id", id.as_bytes()),
+    match text {
+        Some(text) => put_text(object, name, text.as_bytes()),
         None => {
-            object.key("id")?;
+            object.key(name)?;
             object.null()
         }
     }

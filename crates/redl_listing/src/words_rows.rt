@@ -5,11 +5,12 @@ ghost use Rattle.std.specs.List.{flat_map};
 ghost use Rattle.redl_listing.specs.Rows.{IsRow};
 ghost use Rattle.redl_terminal.specs.Masks.{masked};
 ghost use Rattle.redl_terminal.specs.declared.extent.Extent.TheVariants.{Field};
-ghost use Rattle.redl_listing.specs.Words.{closing, closing_of, in_places, inside, near_end, numbered_columns, opening, opening_of, outside, place_words, quoted, said_text, says_text, shortened, words_columns, words_row};
+ghost use Rattle.redl_listing.specs.Words.{clause_text, closing, closing_of, in_paragraph, in_places, inside, near_end, numbered_columns, opening, opening_of, outside, place_words, quoted, said_text, says_text, shortened, words_columns, words_row};
 
 use crate::row::Row;
 use redl_excerpts::{Detail, LastWord, Says, characters_in, shortened, without_characters};
 use redl_formats::{ItemText, push_left, push_number, push_spaces, verdict_name, word_name};
+use redl_io::Text;
 use redl_join::Verdict;
 use redl_kinds::RevKind;
 use redl_places::{StoryPlace, text_of};
@@ -103,10 +104,31 @@ fn push_author(line: &mut Vec<u8>, author: &[u8]) -> Result<(), AllocError>
     Ok(())
 }
 
-// Adds the words in their paragraph. `Err` means out of memory.
+// Adds the clause, and the words in their paragraph. `Err` means out of memory.
 #[tactic(auto, unfolding(crate::specs::Words::quoted))]
 fn push_quoted(line: &mut Vec<u8>, row: &Row) -> Result<(), AllocError>
     ensures { OnOk result (line.new.items ≡ line.old.items ++ quoted row.now) }
+{
+    push_clause(line, &row.detail.clause)?;
+    push_in_paragraph(line, row)?;
+    Ok(())
+}
+
+// Adds the clause, if there is one, and a space behind it. `Err` means out of memory.
+fn push_clause(line: &mut Vec<u8>, clause: &Option<Text>) -> Result<(), AllocError>
+    ensures { OnOk result (line.new.items ≡ line.old.items ++ clause_text clause.now) }
+{
+    if let Some(clause) = clause {
+        push_masked(line, Extent::Field, clause.as_bytes())?;
+        line.push(b' ')?;
+    }
+    Ok(())
+}
+
+// Adds the words in their paragraph. `Err` means out of memory.
+#[tactic(auto, unfolding(crate::specs::Words::in_paragraph))]
+fn push_in_paragraph(line: &mut Vec<u8>, row: &Row) -> Result<(), AllocError>
+    ensures { OnOk result (line.new.items ≡ line.old.items ++ in_paragraph row.now) }
 {
     push_near_end(line, row.detail.before.as_bytes())?;
     line.extend_from_slice(opening(row.kind).as_bytes())?;

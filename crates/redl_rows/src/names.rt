@@ -8,7 +8,7 @@ pub(crate) const FRONT: &str = "{package}{document}";
 pub(crate) const BACK: &str = "{/document}{/package}";
 
 // Each name and its text. A text that holds another one comes first.
-const NAMES: [(&str, &str); 25] = [
+const NAMES: [(&str, &str); 27] = [
     (
         "{A}",
         " w:id=\"1\" w:author=\"Ann\" w:date=\"2024-05-06T07:08:09Z\"",
@@ -51,6 +51,11 @@ const NAMES: [(&str, &str); 25] = [
         "<pkg:part pkg:name=\"/word/endnotes.xml\" pkg:contentType=\"application/vnd.openxmlformats-officedocument.wordprocessingml.endnotes+xml\"><pkg:xmlData><w:endnotes xmlns:w=\"http://schemas.openxmlformats.org/wordprocessingml/2006/main\">",
     ),
     ("{/endnotes}", "</w:endnotes></pkg:xmlData></pkg:part>"),
+    (
+        "{numbering}",
+        "<pkg:part pkg:name=\"/word/_rels/document.xml.rels\" pkg:contentType=\"application/vnd.openxmlformats-package.relationships+xml\"><pkg:xmlData><Relationships xmlns=\"http://schemas.openxmlformats.org/package/2006/relationships\"><Relationship Id=\"rId1\" Type=\"http://schemas.openxmlformats.org/officeDocument/2006/relationships/numbering\" Target=\"numbering.xml\"/></Relationships></pkg:xmlData></pkg:part><pkg:part pkg:name=\"/word/numbering.xml\" pkg:contentType=\"application/vnd.openxmlformats-officedocument.wordprocessingml.numbering+xml\"><pkg:xmlData><w:numbering xmlns:w=\"http://schemas.openxmlformats.org/wordprocessingml/2006/main\">",
+    ),
+    ("{/numbering}", "</w:numbering></pkg:xmlData></pkg:part>"),
     (
         "{comments}",
         "<pkg:part pkg:name=\"/word/comments.xml\" pkg:contentType=\"application/vnd.openxmlformats-officedocument.wordprocessingml.comments+xml\"><pkg:xmlData><w:comments xmlns:w=\"http://schemas.openxmlformats.org/wordprocessingml/2006/main\">",
