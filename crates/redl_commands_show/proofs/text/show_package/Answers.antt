@@ -1,3 +1,5 @@
+use Rattle.std.proofs.Common.{ap}
+use Rattle.redl_bare.specs.BareText.{bare_text}
 use Rattle.redl_tree.specs.declared.kinds.Say.TheVariants.{Accept, Reject}
 use Rattle.redl_commands_show.proofs.TextLaws.{plain_text_of}
 use Rattle.redl_commands_show.proofs.text.show_package.Goals as goal
@@ -16,7 +18,7 @@ pub returns-in-Marked : goal.returns-in-Marked
 returns-in-Marked c = rw c.in-Marked.is (rw c.into_counted-counted.ensures.nodes at c.show_marked.ensures)
 
 pub returns-in-Bare : goal.returns-in-Bare
-returns-in-Bare c = rw c.in-Bare.is (rw c.into_counted-counted.ensures.nodes at c.show_bare.ensures)
+returns-in-Bare c = rw c.in-Bare.is (ap bare_text c.into_counted-counted.ensures.nodes)
 
 pub returns-in-Left : goal.returns-in-Left
 returns-in-Left c = rw c.in-Left.is (rw c.into_counted-counted.ensures.nodes at c.show_left.ensures)
