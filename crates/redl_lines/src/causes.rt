@@ -1,7 +1,6 @@
 //! The line of each failure.
 
 ghost use Rattle.std.specs.Prelude.{◌≡◌};
-ghost use Rattle.hex.specs.Hex.{encode_lower};
 ghost use Rattle.redl_lines.specs.Failures.{cause_view, failure_view};
 ghost use Rattle.redl_lines.specs.Lines.{failure_line, cause_line, no_format_line, fault_line, limit_line as limit_line_of, unread_line, malformed_line, other_document_line, other_count_line, difference_line, no_sequence_line};
 ghost use Rattle.redl_io.specs.Sink.{Puts};
@@ -10,6 +9,7 @@ use crate::failure::{Cause, Failure, Limit, PackageFault};
 use crate::named::write_named;
 use itoa::Buffer;
 use redl_io::{Failed, Sink, put_piece, put_pieces};
+use redl_journal::digest_digits;
 
 /// Puts the line of a call that ends so.
 pub(crate) fn write_failure<K: Sink>(failure: &Failure<'_>, err: &mut K) -> Result<(), Failed>
@@ -117,19 +117,10 @@ fn write_other_document<K: Sink>(
     write_difference(
         journal.as_bytes(),
         b"document",
-        &digits(found),
-        &digits(expected),
+        &digest_digits(found),
+        &digest_digits(expected),
         err,
     )
-}
-
-// A digest in lower-case hexadecimal digits.
-fn digits(digest: &[u8; 32]) -> [u8; 64]
-    ensures { result ≡ encode_lower digest.now }
-{
-    let mut digits = [0; 64];
-    hex::encode_to_slice(digest, &mut digits).unwrap();
-    digits
 }
 
 fn write_other_count<K: Sink>(

@@ -1,13 +1,13 @@
 //! The summary of a sample under its reviewers' decisions.
 
-ghost use Rattle.std.specs.Prelude.{◌≡◌, decimal};
-ghost use Rattle.hex.specs.Hex.{encode_lower};
+ghost use Rattle.std.specs.Prelude.{decimal};
 ghost use Rattle.redl_io.specs.Sink.{Puts};
 ghost use Rattle.redl_sample.specs.Summaries.{line, number_line, summary_text, tally_text};
 
 use crate::tally::Tally;
 use itoa::Buffer;
 use redl_io::{Failed, Sink, put_pieces};
+use redl_journal::digest_digits;
 
 /// What becomes of a sample under the decisions of its reviewers.
 #[derive(Clone, Copy, Debug, PartialEq, Eq)]
@@ -37,7 +37,7 @@ impl SampleSummary {
         write_number(b"entries", self.entries, out)?;
         write_tally(&self.verdicts, out)?;
         write_number(b"bytes", self.bytes as u64, out)?;
-        write_line(b"sha256", &digits(&self.digest), out)
+        write_line(b"sha256", &digest_digits(&self.digest), out)
     }
 }
 
@@ -65,13 +65,4 @@ fn write_line<'a, K: Sink>(name: &'a [u8], value: &'a [u8], out: &mut K) -> Resu
     ensures { Puts K.told K.faults K.settled K.lenders out.old out.new (line name.now value.now) result }
 {
     put_pieces(&[name, b" ", value, b"\n"], out)
-}
-
-// The digest in lower-case hexadecimal digits.
-fn digits(digest: &[u8; 32]) -> [u8; 64]
-    ensures { result ≡ encode_lower digest.now }
-{
-    let mut digits = [0; 64];
-    hex::encode_to_slice(digest, &mut digits).unwrap();
-    digits
 }

@@ -1,4 +1,4 @@
 use Rattle.redl_lines.proofs.causes.write_other_document.Goals as goal
 
 pub returns : goal.returns
-returns g c = rw (c.as_bytes.ensures.value, c.digits.ensures, (c.digits-2).ensures) at c.write_difference.ensures
+returns g c = rw (c.as_bytes.ensures.value, c.digest_digits.ensures, (c.digest_digits-2).ensures) at c.write_difference.ensures

@@ -18,4 +18,4 @@ pub returns-in_err-write_number-4 : goal.returns-in_err-write_number-4
 returns-in_err-write_number-4 g c = puts_then refl c.in_ok-write_number.ensures (puts_then refl c.in_ok-write_number-2.ensures (puts_then refl c.in_ok-write_number-3.ensures (puts_then refl c.in_ok-write_tally.ensures (puts_fails _ refl c.from_residual-in_err-write_number-4.ensures.1 c.in_err-write_number-4.ensures))))
 
 pub returns : goal.returns
-returns g c = puts_then refl c.in_ok-write_number.ensures (puts_then refl c.in_ok-write_number-2.ensures (puts_then refl c.in_ok-write_number-3.ensures (puts_then refl c.in_ok-write_tally.ensures (puts_then refl c.in_ok-write_number-4.ensures (rw c.digits.ensures at c.write_line.ensures)))))
+returns g c = puts_then refl c.in_ok-write_number.ensures (puts_then refl c.in_ok-write_number-2.ensures (puts_then refl c.in_ok-write_number-3.ensures (puts_then refl c.in_ok-write_tally.ensures (puts_then refl c.in_ok-write_number-4.ensures (rw c.digest_digits.ensures at c.write_line.ensures)))))
