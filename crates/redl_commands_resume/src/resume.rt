@@ -61,7 +61,6 @@ pub fn resume_package<'a, 'b, F: Shelf>(
     ensures { ReadsFiles F.told F.faults F.asked shelf.old shelf.new (command.now.firsts.items ++ command.now.second ∷ command.now.journals.items)
         (result_view writing_view result) (λ reader files. resumed reader files command.now.second command.now.firsts.items command.now.journals.items bytes.now) }
 {
-    let second = name_of(&command.second);
     let package = read_package(alloc, bytes)?;
     let (admitted, left) = sit(
         alloc,
@@ -72,16 +71,23 @@ pub fn resume_package<'a, 'b, F: Shelf>(
         shelf,
     )?;
     let (first, text) = leave(alloc, admitted, bytes.len())?;
-    resume_on(
-        alloc,
-        first,
-        text,
+    let second = Second {
+        package: name_of(&command.second),
+        journals: &command.journals,
         left,
-        second,
-        &command.journals,
-        bytes,
-        shelf,
-    )
+    };
+    resume_on(alloc, first, text, second, bytes, shelf)
+}
+
+// What a second sitting takes from the shelf.
+#[derive(Clone, Copy)]
+struct Second<'a> {
+    // The name of its package.
+    package: &'a str,
+    // The names of its journals.
+    journals: &'a [Text],
+    // How many bytes these may have together.
+    left: usize,
 }
 
 // What a first sitting leaves for the second one, besides a text.
@@ -146,28 +152,26 @@ fn text_of(alloc: Global, nodes: &[Node], room: usize) -> Result<Vec<u8>, AllocE
     }
 }
 
-// The rest, after a first sitting that left this text of its package. `left` bytes of journals may still come.
+// The rest, after a first sitting that left this text of its package.
 fn resume_on<'a, 'b, F: Shelf>(
     alloc: Global,
     first: First,
     text: Vec<u8>,
-    left: usize,
-    second: &'a str,
-    journals: &'a [Text],
+    second: Second<'a>,
     bytes: &[u8],
     shelf: &mut F,
 ) -> Result<Writing<'b>, Failure<'a>>
-    requires utf8 { All IsUtf8 journals.now }
-    requires left { left < 2 ^ 32 }
+    requires utf8 { All IsUtf8 second.journals.now }
+    requires left { second.left < 2 ^ 32 }
     ensures { (one : Admission) → IsFirst one first → IsReadAgain bytes.now one → text.items ≡ left_text one.state
-        → ReadsFiles F.told F.faults F.asked shelf.old shelf.new (second.now ∷ journals.now) (result_view writing_view result)
-        (λ reader files. resumed_with reader files second.now journals.now (one, left)) }
+        → ReadsFiles F.told F.faults F.asked shelf.old shelf.new (second.entry.package.now ∷ second.entry.journals.now) (result_view writing_view result)
+        (λ reader files. resumed_with reader files second.entry.package.now second.entry.journals.now (one, second.entry.left)) }
 {
-    let whole = fetch_package(alloc, second, shelf)?;
+    let whole = fetch_package(alloc, second.package, shelf)?;
     if !is_text(text, &whole) {
         return Err(Failure::Cause(Cause::NotWritten));
     }
-    resume_with(alloc, first, whole, left, journals, bytes, shelf)
+    resume_with(alloc, first, whole, second, bytes, shelf)
 }
 
 // Whether this is the whole text, which goes.
@@ -182,16 +186,15 @@ fn resume_with<'a, 'b, F: Shelf>(
     alloc: Global,
     first: First,
     whole: Vec<u8>,
-    left: usize,
-    journals: &'a [Text],
+    second: Second<'a>,
     bytes: &[u8],
     shelf: &mut F,
 ) -> Result<Writing<'b>, Failure<'a>>
-    requires utf8 { All IsUtf8 journals.now }
-    requires left { left < 2 ^ 32 }
+    requires utf8 { All IsUtf8 second.journals.now }
+    requires left { second.left < 2 ^ 32 }
     ensures { (one : Admission) → IsFirst one first → IsReadAgain bytes.now one
-        → ReadsFiles F.told F.faults F.asked shelf.old shelf.new journals.now (result_view writing_view result)
-        (λ reader files. resumed_on reader files left journals.now whole.items one) }
+        → ReadsFiles F.told F.faults F.asked shelf.old shelf.new second.entry.journals.now (result_view writing_view result)
+        (λ reader files. resumed_on reader files second.entry.left second.entry.journals.now whole.items one) }
 {
     let First {
         document,
@@ -199,7 +202,7 @@ fn resume_with<'a, 'b, F: Shelf>(
         numbers,
         refused,
     } = first;
-    let joined = take_second(alloc, decided, &numbers, whole, left, journals, shelf)?;
+    let joined = take_second(alloc, decided, &numbers, whole, second, shelf)?;
     conclude(alloc, document, refused, joined, bytes)
 }
 
@@ -209,17 +212,16 @@ fn take_second<'a, F: Shelf>(
     decided: Book,
     numbers: &[Vec<u32>],
     whole: Vec<u8>,
-    left: usize,
-    journals: &'a [Text],
+    second: Second<'a>,
     shelf: &mut F,
 ) -> Result<Joined, Failure<'a>>
-    requires utf8 { All IsUtf8 journals.now }
-    requires left { left < 2 ^ 32 }
-    ensures { ReadsFiles F.told F.faults F.asked shelf.old shelf.new journals.now (result_view joined_view result)
-        (λ reader files. second_joined reader files left journals.now whole.items decided (map (λ part. part.items) numbers.now)) }
+    requires utf8 { All IsUtf8 second.journals.now }
+    requires left { second.left < 2 ^ 32 }
+    ensures { ReadsFiles F.told F.faults F.asked shelf.old shelf.new second.entry.journals.now (result_view joined_view result)
+        (λ reader files. second_joined reader files second.entry.left second.entry.journals.now whole.items decided (map (λ part. part.items) numbers.now)) }
 {
     let package = read_second(alloc, &whole)?;
-    let (admitted, _) = sit(alloc, package, left, journals, &whole, shelf)?;
+    let (admitted, _) = sit(alloc, package, second.left, second.journals, &whole, shelf)?;
     Ok(join(alloc, decided, numbers, admitted, whole.len())?)
 }
 

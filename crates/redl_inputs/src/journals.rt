@@ -1,7 +1,7 @@
 //! The journals of a call: the entries of each, or why it is refused.
 
 ghost use Rattle.std.specs.Prelude.{◌≡◌, ◌<◌, ◌≤◌, ◌^◌, ◌∷◌, [], All, IsUtf8, IfOk, OnOk};
-ghost use Rattle.redl_inputs.specs.Admission.{admission_left, admission_of};
+ghost use Rattle.redl_inputs.specs.Admission.{admission_left};
 ghost use Rattle.redl_inputs.specs.Journals.{entries_of, first_journal, journal_at, journal_failure, journal_or_none, union_with};
 ghost use Rattle.redl_inputs.specs.Reading.{ReadsFiles, Reads};
 ghost use Rattle.redl_inputs.specs.Views.{admission_view, document_view, known_view, result_view};
@@ -23,29 +23,8 @@ use std::alloc::{AllocError, Global};
 pub const JOURNALS_LIMIT: usize = 67_108_864;
 
 /// What becomes of the entries of the journals of these names, which are of the session's document. All journals together have
-/// at most `limit` bytes.
+/// at most `limit` bytes. Also how many bytes may still come of other journals.
 pub fn admit_journals<'a, 'b, F: Shelf>(
-    alloc: Global,
-    document: DocumentId,
-    journals: &'a [Text],
-    limit: usize,
-    before: Admitted<'b>,
-    shelf: &mut F,
-) -> Result<Admitted<'b>, Failure<'a>>
-    requires utf8 { All IsUtf8 journals.now }
-    requires limit { limit < 2 ^ 32 }
-    requires document { document_view document ≡ known_view before.document }
-    ensures read { ReadsFiles F.told F.faults F.asked shelf.old shelf.new journals.now
-        (result_view admission_view result) (λ reader files. admission_of reader files (admission_view before.entry) limit journals.now) }
-    ensures nodes { IfOk result (λ admitted. admitted.session.nodes ≡ before.entry.session.nodes) }
-    ensures revisions { IfOk result (λ admitted. admitted.session.revisions ≡ before.entry.session.revisions) }
-{
-    let (admitted, _) = admit_within(alloc, document, journals, limit, before, shelf)?;
-    Ok(admitted)
-}
-
-/// The same, with how many bytes may still come of other journals.
-pub fn admit_within<'a, 'b, F: Shelf>(
     alloc: Global,
     document: DocumentId,
     journals: &'a [Text],

@@ -11,7 +11,7 @@ ghost use Rattle.redl_rules.specs.Attributes.{broken_rule};
 use crate::admitted::Admitted;
 use crate::document::{Document, LazyDigest};
 use crate::idle::idle_locks;
-use crate::journals::{JOURNALS_LIMIT, admit_journals, admit_within};
+use crate::journals::{JOURNALS_LIMIT, admit_journals};
 use crate::package::read_package;
 use redl_index::Surveyed;
 use redl_io::{Shelf, Text};
@@ -58,7 +58,8 @@ pub fn open_package<'a, 'b, F: Shelf>(
         return Ok(started);
     }
     let document = started.document.id();
-    admit_journals(alloc, document, journals, JOURNALS_LIMIT, started, shelf)
+    let (admitted, _) = admit_journals(alloc, document, journals, JOURNALS_LIMIT, started, shelf)?;
+    Ok(admitted)
 }
 
 /// A session over this package, which has this text, with the entries of the journals of these names, which have at most `limit`
@@ -82,7 +83,7 @@ pub fn sit<'a, 'b, F: Shelf>(
 {
     let mut started = start(alloc, pkg, &[], bytes)?;
     let document = started.document.id();
-    admit_within(alloc, document, journals, limit, started, shelf)
+    admit_journals(alloc, document, journals, limit, started, shelf)
 }
 
 /// A session over this package, which has this text, before any entry.

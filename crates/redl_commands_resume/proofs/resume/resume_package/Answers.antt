@@ -44,4 +44,4 @@ returns g c =
     } in
     reads_then (λ one reader files. second_sitting reader files c.args.command.now.second c.args.command.now.journals.items one >>= (λ two. resumption one.0 two.0))
     (takes_then_reads (λ nodes reader files. sitting_over reader files journal_bytes firsts c.args.bytes.now nodes) c.in_ok-package.ensures.read (rw c.deref.ensures.value at c.in_ok-admitted.ensures.read))
-    (rw (c.name_of-second.ensures, c.deref-2.ensures.value) at (c.resume_on.ensures (admission_view c.in_ok-admitted.admitted) c.in_ok-first.ensures.first again c.in_ok-first.ensures.text))
+    (rw (c.name_of.ensures, c.deref-2.ensures.value) at (c.resume_on.ensures (admission_view c.in_ok-admitted.admitted) c.in_ok-first.ensures.first again c.in_ok-first.ensures.text))

@@ -2,6 +2,7 @@ use Rattle.std.proofs.Common.{◌∙◌, ap, sym}
 use Rattle.std.proofs.lemmas.Bool.{eqb-true}
 use Rattle.std.proofs.lemmas.List.{nil_from_length}
 use Rattle.std.proofs.lemmas.Result.{err_from_is_err_and}
+use Rattle.redl_inputs.proofs.LeftLaws.{admits_left, admits_left_stops}
 use Rattle.redl_inputs.proofs.OpenLaws.{opens, opens_nothing}
 use Rattle.redl_inputs.proofs.ReadLaws.{fails_alone}
 use Rattle.redl_inputs.specs.Journals.{DocumentId}
@@ -25,4 +26,11 @@ admit_journals-requires-clause-document g c = c.id-document.ensures.id ∙ sym c
 pub returns-clause-read : goal.returns-clause-read
 returns-clause-read g c =
     let same = ap (λ (document : DocumentId). record (admission_view c.in_ok-started.started) { document = document }) c.id-document.ensures.same in
-    opens journal_bytes _ _ (same ∙ c.in_ok-started.ensures) c.admit_journals.ensures.read
+    opens journal_bytes _ _ (same ∙ c.in_ok-started.ensures)
+    (admits_left _ journal_bytes c.args.journals.now c.in_ok-admitted.ensures.read)
+
+pub returns-in_err-admitted-clause-read : goal.returns-in_err-admitted-clause-read
+returns-in_err-admitted-clause-read g c =
+    let p = err_from_is_err_and c.from_residual-in_err-admitted.result c.from_residual-in_err-admitted.ensures.1 in
+    let same = ap (λ (document : DocumentId). record (admission_view c.in_ok-started.started) { document = document }) c.id-document.ensures.same in
+    rw (p.1, p.2) (opens journal_bytes _ _ (same ∙ c.in_ok-started.ensures) (admits_left_stops _ journal_bytes c.args.journals.now c.in_err-admitted.ensures.read))

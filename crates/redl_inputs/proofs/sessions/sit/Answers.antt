@@ -11,10 +11,10 @@ returns-in_err-started-clause-read g c =
     let p = err_from_is_err_and c.from_residual.result c.from_residual.ensures.1 in
     rw (p.1, p.2) (fails_alone _ c.args.journals.now tt (λ reader files is. tt))
 
-pub admit_within-requires-clause-document : goal.admit_within-requires-clause-document
-admit_within-requires-clause-document g c = c.id-document.ensures.id ∙ sym c.id-document.ensures.same
+pub admit_journals-requires-clause-document : goal.admit_journals-requires-clause-document
+admit_journals-requires-clause-document g c = c.id-document.ensures.id ∙ sym c.id-document.ensures.same
 
 pub returns-clause-read : goal.returns-clause-read
 returns-clause-read g c =
     let same = ap (λ (document : DocumentId). record (admission_view c.in_ok-started.started) { document = document }) c.id-document.ensures.same in
-    sits c.args.limit _ _ (same ∙ c.in_ok-started.ensures) c.admit_within.ensures.read
+    sits c.args.limit _ _ (same ∙ c.in_ok-started.ensures) c.admit_journals.ensures.read

@@ -3,7 +3,7 @@ use Rattle.redl_inputs.proofs.LeftLaws.{IsTakingLeft}
 use Rattle.redl_inputs.specs.Admission.{admission_with, admission_left}
 use Rattle.redl_inputs.specs.Views.{admission_view, document_view}
 use Rattle.redl_io.specs.Shelf.{ask_more}
-use Rattle.redl_inputs.proofs.journals.admit_within.Given as goal
+use Rattle.redl_inputs.proofs.journals.admit_journals.Given as goal
 
 -- what was taken so far, and the journals that are left
 abbrev pub invariant-loop-journal : goal.invariant-loop-journal
