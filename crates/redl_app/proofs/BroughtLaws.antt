@@ -1,9 +1,11 @@
 -- What the program brings, by the formats that it adds one after another.
-use Rattle.std.proofs.Common.{◌≡◌, List, [], ◌∷◌, ◌++◌, map, ap, sym, subst, ◌∙◌}
+use Rattle.std.proofs.Common.{◌≡◌, List, [], ◌∷◌, ◌++◌, map, ap, sym, subst, ◌∙◌, inl}
 use Rattle.std.proofs.lemmas.List.{map-append}
 use Rattle.std.specs.declared.dyn_box.DynBox.{DynBox}
 use Rattle.redl_outcome.specs.Brought.{Brought}
-use Rattle.redl_commands_shown.specs.Formats.{Format}
+use Rattle.redl_commands_shown.specs.Formats.{Format, LeavesFormats}
+use Rattle.redl_lines.specs.declared.status.Status.{Status}
+use Rattle.redl_lines.specs.declared.status.Status.TheVariants as status
 use Rattle.redl_listing.specs.declared.row.Row.{Row}
 use Rattle.redl_page.specs.Page.{Skin}
 use Rattle.redl_report.specs.declared.line.ReportLine.{ReportLine}
@@ -29,3 +31,18 @@ pub with_reports : (Holds : Brought → Type 0) (formats : List (Format Row)) (r
     → Holds (record { formats = formats; reports = reports; skin = skin }) → reports ≡ known → Holds (record { formats = formats; reports = known; skin = skin })
 with_reports Holds formats reports known skin here same =
     subst Holds (ap (λ (all : List (Format ReportLine)). record { formats = formats; reports = all; skin = skin }) same) here
+
+-- formats that stay as they were are those that a call leaves that asks for none
+pub leaves_same : {F : Type 0} (ended : Status) (formats new : List F) → new ≡ formats → LeavesFormats ended formats formats new
+leaves_same status.Done formats new is = is
+leaves_same status.Refused formats new is = is
+leaves_same status.Usage formats new is = is
+leaves_same status.Package formats new is = is
+leaves_same status.Journal formats new is = is
+leaves_same status.ReadFault formats new is = is
+leaves_same status.WriteFault formats new is = is
+leaves_same status.Limit formats new is = is
+leaves_same status.NoMemory formats new is = inl is
+leaves_same status.Sequence formats new is = is
+leaves_same status.NotWritten formats new is = is
+leaves_same status.Differ formats new is = is

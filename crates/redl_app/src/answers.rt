@@ -12,12 +12,11 @@ ghost use Rattle.redl_app.specs.Formats.{program_brings};
 ghost use Rattle.redl_app.specs.Own.{own_of, own_lines, text_of};
 
 use crate::call::run_words;
-use crate::own::{Texts, own_of};
+use crate::own::{Program, own_of};
 use crate::tell::tell_text;
 use crate::top::refuse_words;
 use redl_io::{Shelf, Sink, Text};
 use redl_lines::Status;
-use redl_page::Skin;
 use redl_words::WordsError;
 use std::alloc::Global;
 
@@ -27,8 +26,7 @@ use std::alloc::Global;
 pub fn answer<F: Shelf, O: Sink, E: Sink>(
     alloc: Global,
     words: &Result<Vec<Text>, WordsError>,
-    texts: &Texts<'_>,
-    skin: &Skin<'_>,
+    program: &Program<'_>,
     shelf: &mut F,
     out: &mut O,
     err: &mut E,
@@ -42,13 +40,13 @@ pub fn answer<F: Shelf, O: Sink, E: Sink>(
 
     // What the program tells of itself.
     ensures own { IfOk words.now (λ words. IfSome (own_of words.items) (λ _. (result ≡ Status.Done) ⊎ (result ≡ Status.WriteFault))) }
-    ensures own_text { IfOk words.now (λ words. IfSome (own_of words.items) (λ own. Writes O.told out.old out.new result (text_of texts.now own words.items))) }
+    ensures own_text { IfOk words.now (λ words. IfSome (own_of words.items) (λ own. Writes O.told out.old out.new result (text_of program.now.texts own words.items))) }
     ensures own_lines { IfOk words.now (λ words. IfSome (own_of words.items) (λ _. Tells E.told E.faults err.old err.new (own_lines result))) }
     ensures own_alone { IfOk words.now (λ words. IfSome (own_of words.items) (λ _. shelf.new ≡ shelf.old)) }
 
     // What is asked of files.
     ensures answers { IfOk words.now (λ words. own_of words.items ≡ None → Answers F.told F.faults F.asked shelf.old shelf.new O.told O.faults out.old out.new
-        E.told E.faults err.old err.new words.items (program_brings skin.now) result) }
+        E.told E.faults err.old err.new words.items (program_brings program.now.skin) result) }
 
     // Over all words.
     ensures write { result ≡ Status.WriteFault → Rose (O.faults out.old) (O.faults out.new) }
@@ -59,8 +57,8 @@ pub fn answer<F: Shelf, O: Sink, E: Sink>(
 {
     match words {
         Ok(words) => match own_of(words) {
-            Some(own) => tell_text(alloc, texts.text_of(own, words), out, err),
-            None => run_words(alloc, words, shelf, out, err, skin),
+            Some(own) => tell_text(alloc, program.texts.text_of(own, words), out, err),
+            None => run_words(alloc, words, shelf, out, err, &program.skin),
         },
         Err(error) => refuse_words(*error, err),
     }

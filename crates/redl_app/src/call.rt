@@ -5,7 +5,8 @@ ghost use Rattle.redl_app.specs.Answers.{Answers};
 ghost use Rattle.redl_app.specs.Formats.{brings, program_brings};
 ghost use Rattle.redl_commands_shown.specs.Formats.{AreFresh, formats_by};
 
-use crate::top::{refuse_words, run};
+use crate::brings::Bringing;
+use crate::top::{refuse_words, run_by};
 use redl_io::{Shelf, Sink, Text};
 use redl_lines::Status;
 use redl_listing::{
@@ -59,23 +60,35 @@ fn run_with_formats<F: Shelf, O: Sink, E: Sink>(
     add_format(&mut formats, Box::new(alloc, JsonFormat::new(alloc)?)?)?;
     add_format(&mut formats, Box::new(alloc, WordsFormat::new(alloc)?)?)?;
     add_format(&mut formats, Box::new(alloc, FullFormat::new(alloc)?)?)?;
-    run_with_reports(alloc, words, shelf, out, err, &mut formats, skin)
+    let showing = Showing {
+        formats,
+        skin: *skin,
+    };
+    run_with_reports(alloc, words, shelf, out, err, showing)
 }
 
-// The same with these formats of listings: makes those of reports.
+// How rows and pages are shown: what is brought before the formats of reports are made.
+#[derive(Drop)]
+struct Showing<'s> {
+    // The formats of listings.
+    formats: Vec<Box<dyn RowFormat>>,
+    // The skin of pages.
+    skin: Skin<'s>,
+}
+
+// The same with what rows and pages are shown by: makes the formats of reports.
 fn run_with_reports<F: Shelf, O: Sink, E: Sink>(
     alloc: Global,
     words: &[Text],
     shelf: &mut F,
     out: &mut O,
     err: &mut E,
-    formats: &mut Vec<Box<dyn RowFormat>>,
-    skin: &Skin<'_>,
+    showing: Showing<'_>,
 ) -> Result<Status, AllocError>
     requires utf8 { All IsUtf8 words.now }
-    requires fresh { AreFresh is_closed rows_so_far formats.old.items }
+    requires fresh { AreFresh is_closed rows_so_far showing.formats.items }
     ensures answers { IfOk result (λ status. Answers F.told F.faults F.asked shelf.old shelf.new O.told O.faults out.old out.new
-        E.told E.faults err.old err.new words.now (brings (formats_by format_name text_for formats.old.items) skin.now) status) }
+        E.told E.faults err.old err.new words.now (brings (formats_by format_name text_for showing.entry.formats.items) showing.entry.skin) status) }
     ensures same_shelf { OnErr result (shelf.new ≡ shelf.old) }
     ensures same_out { OnErr result (out.new ≡ out.old) }
     ensures same_err { OnErr result (err.new ≡ err.old) }
@@ -84,5 +97,11 @@ fn run_with_reports<F: Shelf, O: Sink, E: Sink>(
     add_report_format(&mut reports, Box::new(alloc, TextReport::new(alloc)?)?)?;
     add_report_format(&mut reports, Box::new(alloc, JsonReport::new(alloc)?)?)?;
     add_report_format(&mut reports, Box::new(alloc, TableReport::new(alloc)?)?)?;
-    Ok(run(alloc, words, shelf, out, err, formats, &mut reports, skin))
+    let Showing { formats, skin } = showing;
+    let mut bringing = Bringing {
+        formats,
+        reports,
+        skin,
+    };
+    Ok(run_by(alloc, words, shelf, out, err, &mut bringing))
 }

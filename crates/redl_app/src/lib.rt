@@ -9,6 +9,7 @@
 #![tactic(auto)]
 
 mod answers;
+mod brings;
 mod call;
 mod commands;
 mod formats;
@@ -18,8 +19,9 @@ mod tell;
 mod top;
 
 pub use answers::answer;
+pub use brings::Bringing;
 pub use call::run_words;
-pub use own::{Own, Part, Texts, own_of};
+pub use own::{Own, Part, Program, Texts, own_of};
 pub use redl_inputs::{JOURNALS_LIMIT, PACKAGE_LIMIT};
 pub use redl_lines::Status;
 pub use redl_words::WordsError;

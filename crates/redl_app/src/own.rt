@@ -4,6 +4,7 @@ ghost use Rattle.std.specs.Prelude.{◌≡◌};
 ghost use Rattle.redl_app.specs.Own.{first_of, is_help, is_version, own_of, part_in, text_of};
 
 use redl_io::Text;
+use redl_page::Skin;
 
 /// What the program may tell of itself.
 #[derive(Clone, Copy, Debug, PartialEq, Eq)]
@@ -34,6 +35,15 @@ pub struct Texts<'a> {
     pub parts: &'a [Part<'a>],
     /// The answer to `--version`.
     pub version: &'a str,
+}
+
+/// What a program brings to a call besides its formats.
+#[derive(Clone, Copy)]
+pub struct Program<'a> {
+    /// What it tells of itself.
+    pub texts: Texts<'a>,
+    /// The skin of its pages.
+    pub skin: Skin<'a>,
 }
 
 impl<'a> Texts<'a> {

@@ -1,35 +1,33 @@
 //! The top call: from words and files to a status, bytes and lines.
 //!
-//! `run` reads the words, `end_of_words` ends a call by them, and `end_of_command` looks for the format, fetches the package, and
-//! has the command carried out.
+//! `run` makes one word of what is brought, `run_by` reads the words, `end_of_words` ends a call by them, and `end_of_command` looks
+//! for the format, fetches the package, and has the command carried out.
 
-ghost use Rattle.std.specs.Prelude.{◌≡◌, ◌≢◌, ◌⊎◌, [], All, IfErr, IfOk, IsOk, IsUtf8, Ok, Result};
+ghost use Rattle.std.specs.Prelude.{◌≡◌, ◌≢◌, ◌⊎◌, [], All, IfErr, IfOk, IsUtf8, Ok, Result};
 ghost use Rattle.redl_outcome.specs.Answers.{AreLines, Asks, IsAnswer, MayFault, OfOutcome, TellsSome, Writes};
 ghost use Rattle.redl_outcome.specs.Files.{files_of};
 ghost use Rattle.redl_outcome.specs.Words.{IsWanted, named_files, read_view, words_failure};
 ghost use Rattle.redl_commands.specs.Endings.{Ends};
 ghost use Rattle.redl_outcome.specs.Brought.{brought_by};
-ghost use Rattle.redl_commands_shown.specs.Formats.{AreFresh, LeavesFormats, formats_by, has_format, without_asked};
+ghost use Rattle.redl_commands_shown.specs.Formats.{AreFresh, LeavesFormats, without_asked};
 ghost use Rattle.redl_outcome.specs.Left.{Leaves};
 ghost use Rattle.redl_outcome.specs.Sittings.{Resumes};
 ghost use Rattle.redl_outcome.specs.Outcome.{carried_out, outcome};
-ghost use Rattle.redl_outcome.specs.Plans.{has_asked, plan};
+ghost use Rattle.redl_outcome.specs.Plans.{plan};
 ghost use Rattle.redl_commands.specs.Writing.{Writing as WritingOf};
 ghost use Rattle.redl_inputs.specs.Readers.{IsReader, Reader};
-ghost use Rattle.redl_inputs.specs.Views.{result_view};
 ghost use Rattle.redl_io.specs.Faults.{Rose};
 ghost use Rattle.redl_io.specs.MemShelf.{file_named};
 ghost use Rattle.redl_io.specs.Shelf.{Files};
 ghost use Rattle.redl_lines.specs.Ends.{Tells, end_status, end_view, failed};
 ghost use Rattle.redl_lines.specs.Failures.{Failure as FailureOf, failure_status, failure_view};
 ghost use Rattle.redl_lines.specs.Lines.{failure_line};
-ghost use Rattle.redl_page.specs.declared.page.Skin.{Skin as SkinOf};
 ghost use Rattle.redl_words.specs.Commands.{Command as CommandOf, HasNoCommand, HasUtf8, IsCommand};
 ghost use Rattle.redl_words.specs.Views.{command_of};
 
+use crate::brings::{Bringing, Brings};
 use crate::commands::carry_out;
-use crate::formats::{check_format, check_report};
-use crate::plan::{format, package, report};
+use crate::plan::package;
 use redl_inputs::fetch_package;
 use redl_io::{NullSink, Shelf, Sink, SureShelf, Text};
 use redl_lines::{Cause, End, Failure, Status, tell};
@@ -38,6 +36,7 @@ use redl_page::Skin;
 use redl_report::ReportFormat;
 use redl_words::{Command, WordsError, read_words};
 use std::alloc::Global;
+use std::mem::replace;
 
 /// Does what the words ask: takes files from the shelf, puts bytes on `out` and lines on `err`.
 ///
@@ -108,39 +107,99 @@ pub fn run<F: Shelf, O: Sink, E: Sink>(
         (brought_by format_name text_for formats.old.items report_name report_text reports.old.items skin.now)
         (Rose (F.faults shelf.old) (F.faults shelf.new)))) }
 {
+    let mut bringing = Bringing {
+        formats: replace(formats, Vec::new(alloc)),
+        reports: replace(reports, Vec::new(alloc)),
+        skin: *skin,
+    };
+    let status = run_by(alloc, words, shelf, out, err, &mut bringing);
+    *formats = bringing.formats;
+    *reports = bringing.reports;
+    status
+}
+
+/// The same with what is brought as one word.
+pub(crate) fn run_by<F: Shelf, O: Sink, E: Sink, B: Brings>(
+    alloc: Global,
+    words: &[Text],
+    shelf: &mut F,
+    out: &mut O,
+    err: &mut E,
+    brings: &mut B,
+) -> Status
+    requires utf8 { All IsUtf8 words.now }
+    requires fresh { B.is_fresh brings.old }
+
+    // Where the shelf tells, or the words ask for no file, the status is the outcome's, but for what the outside forces.
+    ensures status { OfOutcome (F.told shelf.old) words.now (B.brought brings.old)
+        (λ outcome. IsAnswer result outcome (Rose (F.faults shelf.old) (F.faults shelf.new)) (Rose (O.faults out.old) (O.faults out.new))) }
+
+    // Over every shelf.
+    ensures usage { HasNoCommand words.now → (result ≡ Status.Usage) ⊎ (result ≡ Status.NoMemory) }
+    ensures read { result ≡ Status.ReadFault → MayFault words.now (B.brought brings.old)
+        (F.told shelf.old) (Rose (F.faults shelf.old) (F.faults shelf.new)) }
+    ensures write { result ≡ Status.WriteFault → Rose (O.faults out.old) (O.faults out.new) }
+
+    // A command asks for the first ones of its files, in their order, each once: for all of them where its output was put. The line of
+    // a read fault tells the last name. Other words ask for none.
+    ensures asked { (command : CommandOf) → IsCommand words.now command → Asks (F.asked shelf.old) (F.asked shelf.new)
+        (files_of (B.brought brings.old) (plan command)) result (Tells E.told E.faults err.old err.new) }
+    ensures unasked { HasNoCommand words.now → F.asked shelf.new ≡ F.asked shelf.old }
+
+    // No fault is passed over, and nothing is taken from the shelf.
+    ensures shelf_stands { result ≢ Status.ReadFault → F.faults shelf.new ≡ F.faults shelf.old }
+    ensures out_stands { result ≢ Status.WriteFault → O.faults out.new ≡ O.faults out.old }
+    ensures same_files { F.told shelf.new ≡ F.told shelf.old }
+
+    // The list of formats loses at most the one that the command asks for.
+    ensures taken { (command : CommandOf) → IsCommand words.now command → LeavesFormats result
+        (without_asked B.format_title (plan command).format (B.formats brings.old)) (B.formats brings.old) (B.formats brings.new) }
+    ensures taken_report { (command : CommandOf) → IsCommand words.now command → LeavesFormats result
+        (without_asked B.report_title (plan command).report (B.reports brings.old)) (B.reports brings.old) (B.reports brings.new) }
+    ensures no_format { HasNoCommand words.now → B.formats brings.new ≡ B.formats brings.old }
+    ensures no_report { HasNoCommand words.now → B.reports brings.new ≡ B.reports brings.old }
+
+    // What went out.
+    ensures bytes { OfOutcome (F.told shelf.old) words.now (B.brought brings.old)
+        (λ outcome. Writes O.told out.old out.new result outcome.bytes) }
+    ensures left { Leaves result (F.told shelf.old) words.now (B.brought brings.old) }
+    ensures resumes { Resumes result (F.told shelf.old) words.now (B.brought brings.old) }
+    ensures untouched { result ≢ Status.Done → result ≢ Status.Refused → result ≢ Status.WriteFault → O.told out.new ≡ O.told out.old }
+    ensures lines { OfOutcome (F.told shelf.old) words.now (B.brought brings.old)
+        (λ outcome. TellsSome E.told E.faults err.old err.new
+        (AreLines result outcome words.now (B.brought brings.old)
+        (Rose (F.faults shelf.old) (F.faults shelf.new)))) }
+{
     let read = read_words(alloc, words);
-    let end = end_of_words(alloc, &read, shelf, out, formats, reports, skin);
+    let end = end_of_words(alloc, &read, shelf, out, brings);
     tell(&end, err);
     end.status()
 }
 
 // How a call ends, by the words as they were read.
-fn end_of_words<'a, F: Shelf, O: Sink>(
+fn end_of_words<'a, F: Shelf, O: Sink, B: Brings>(
     alloc: Global,
     read: &'a Result<Command, WordsError>,
     shelf: &mut F,
     out: &mut O,
-    formats: &mut Vec<Box<dyn RowFormat>>,
-    reports: &mut Vec<Box<dyn ReportFormat>>,
-    skin: &Skin<'_>,
+    brings: &mut B,
 ) -> End<'a>
     requires utf8 { IfOk read.now (λ command. HasUtf8 (command_of command)) }
-    requires fresh { AreFresh is_closed rows_so_far formats.old.items }
-    requires fresh_reports { AreFresh is_ended lines_so_far reports.old.items }
+    requires fresh { B.is_fresh brings.old }
     ensures ends { (due : Reader → Files → Result WritingOf FailureOf) → IsWanted
-        (brought_by format_name text_for formats.old.items report_name report_text reports.old.items skin.now) (read_view read.now) due
+        (B.brought brings.old) (read_view read.now) due
         → Ends F.told F.faults F.asked shelf.old shelf.new O.told O.faults out.old out.new
-        (named_files (brought_by format_name text_for formats.old.items report_name report_text reports.old.items skin.now) read.now) due (end_view result) }
+        (named_files (B.brought brings.old) read.now) due (end_view result) }
     ensures words { IfErr read.now (λ error. end_view result ≡ failed (words_failure error)) }
     ensures taken { IfOk read.now (λ command. LeavesFormats (end_status (end_view result))
-        (without_asked format_name (plan (command_of command)).format formats.old.items) formats.old.items formats.new.items) }
-    ensures no_format { IfErr read.now (λ _. formats.new.items ≡ formats.old.items) }
+        (without_asked B.format_title (plan (command_of command)).format (B.formats brings.old)) (B.formats brings.old) (B.formats brings.new)) }
     ensures taken_report { IfOk read.now (λ command. LeavesFormats (end_status (end_view result))
-        (without_asked report_name (plan (command_of command)).report reports.old.items) reports.old.items reports.new.items) }
-    ensures no_report { IfErr read.now (λ _. reports.new.items ≡ reports.old.items) }
+        (without_asked B.report_title (plan (command_of command)).report (B.reports brings.old)) (B.reports brings.old) (B.reports brings.new)) }
+    ensures no_format { IfErr read.now (λ _. B.formats brings.new ≡ B.formats brings.old) }
+    ensures no_report { IfErr read.now (λ _. B.reports brings.new ≡ B.reports brings.old) }
 {
     match read {
-        Ok(command) => end_of_command(alloc, command, shelf, out, formats, reports, skin),
+        Ok(command) => end_of_command(alloc, command, shelf, out, brings),
         Err(error) => End::Failed(failure_of(*error)),
     }
 }
@@ -154,64 +213,36 @@ fn failure_of(error: WordsError) -> Failure<'static>
     }
 }
 
-// Whether there is the format that the command asks for, if it asks for one.
-fn check_asked<'a>(
-    command: &'a Command,
-    formats: &[Box<dyn RowFormat>],
-    reports: &[Box<dyn ReportFormat>],
-) -> Result<(), Failure<'a>>
-    requires { HasUtf8 (command_of command.now) }
-    ensures there { IsOk result → (has_format (formats_by format_name text_for formats.now) (plan (command_of command.now)).format ≡ Ok tt)
-        × (has_format (formats_by report_name report_text reports.now) (plan (command_of command.now)).report ≡ Ok tt) }
-    ensures asked { (skin : SkinOf) → result_view (λ _. tt) result
-        ≡ has_asked (brought_by format_name text_for formats.now report_name report_text reports.now skin) (plan (command_of command.now)) }
-{
-    check_format(format(command), formats)?;
-    check_report(report(command), reports)
-}
-
 // How a command ends.
-fn end_of_command<'a, F: Shelf, O: Sink>(
+fn end_of_command<'a, F: Shelf, O: Sink, B: Brings>(
     alloc: Global,
     command: &'a Command,
     shelf: &mut F,
     out: &mut O,
-    formats: &mut Vec<Box<dyn RowFormat>>,
-    reports: &mut Vec<Box<dyn ReportFormat>>,
-    skin: &Skin<'_>,
+    brings: &mut B,
 ) -> End<'a>
     requires utf8 { HasUtf8 (command_of command.now) }
-    requires fresh { AreFresh is_closed rows_so_far formats.old.items }
-    requires fresh_reports { AreFresh is_ended lines_so_far reports.old.items }
+    requires fresh { B.is_fresh brings.old }
     ensures ends { Ends F.told F.faults F.asked shelf.old shelf.new O.told O.faults out.old out.new
-        (files_of (brought_by format_name text_for formats.old.items report_name report_text reports.old.items skin.now)
+        (files_of (B.brought brings.old)
         (plan (command_of command.now)))
         (λ reader files. carried_out reader files
-        (brought_by format_name text_for formats.old.items report_name report_text reports.old.items skin.now)
+        (B.brought brings.old)
         (plan (command_of command.now)))
         (end_view result) }
     ensures taken { LeavesFormats (end_status (end_view result))
-        (without_asked format_name (plan (command_of command.now)).format formats.old.items) formats.old.items formats.new.items }
+        (without_asked B.format_title (plan (command_of command.now)).format (B.formats brings.old)) (B.formats brings.old) (B.formats brings.new) }
     ensures taken_report { LeavesFormats (end_status (end_view result))
-        (without_asked report_name (plan (command_of command.now)).report reports.old.items) reports.old.items reports.new.items }
+        (without_asked B.report_title (plan (command_of command.now)).report (B.reports brings.old)) (B.reports brings.old) (B.reports brings.new) }
 {
-    if let Err(failure) = check_asked(command, formats, reports) {
+    if let Err(failure) = brings.check(command) {
         return End::Failed(failure);
     }
     let Some(name) = package(command) else {
-        return carry_out(alloc, command, None, shelf, out, formats, reports, skin);
+        return carry_out(alloc, command, None, shelf, out, brings);
     };
     match fetch_package(alloc, name, shelf) {
-        Ok(text) => carry_out(
-            alloc,
-            command,
-            Some(&text),
-            shelf,
-            out,
-            formats,
-            reports,
-            skin,
-        ),
+        Ok(text) => carry_out(alloc, command, Some(&text), shelf, out, brings),
         Err(failure) => End::Failed(failure),
     }
 }
@@ -232,26 +263,15 @@ pub fn run_surely<E: Sink>(
     words: &[Text],
     shelf: &mut SureShelf,
     err: &mut E,
-    formats: &mut Vec<Box<dyn RowFormat>>,
-    reports: &mut Vec<Box<dyn ReportFormat>>,
-    skin: &Skin<'_>,
+    brings: &mut Bringing<'_>,
 ) -> Status
     requires utf8 { All IsUtf8 words.now }
-    requires fresh { AreFresh is_closed rows_so_far formats.old.items }
-    requires fresh_reports { AreFresh is_ended lines_so_far reports.old.items }
+    requires fresh { AreFresh is_closed rows_so_far brings.old.formats.items }
+    requires fresh_reports { AreFresh is_ended lines_so_far brings.old.reports.items }
     ensures { (reader : Reader) → IsReader reader
         → (result ≡ (outcome reader words.now (file_named shelf.old)
-        (brought_by format_name text_for formats.old.items report_name report_text reports.old.items skin.now)).status)
+        (brought_by format_name text_for brings.old.formats.items report_name report_text brings.old.reports.items brings.old.skin)).status)
         ⊎ (result ≡ Status.NoMemory) }
 {
-    run(
-        alloc,
-        words,
-        shelf,
-        &mut NullSink,
-        err,
-        formats,
-        reports,
-        skin,
-    )
+    run_by(alloc, words, shelf, &mut NullSink, err, brings)
 }

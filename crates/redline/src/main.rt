@@ -9,7 +9,7 @@
 mod help;
 
 use help::{HELP, PARTS, VERSION};
-use redl_app::{Texts, WordsError, answer, own_of};
+use redl_app::{Program, Texts, WordsError, answer, own_of};
 use redl_hints::{Fetched, FirstBytes, tell_hints, tell_word_hint};
 use redl_io::{FileShelf, Shelf, Sink, StdSink, Text};
 use redl_skin::page_skin;
@@ -35,8 +35,10 @@ fn main(rt: HostRuntime) -> ExitCode {
     let status = answer(
         rt.alloc(),
         &words,
-        &TEXTS,
-        &page_skin(),
+        &Program {
+            texts: TEXTS,
+            skin: page_skin(),
+        },
         &mut shelf,
         &mut out,
         &mut err,

@@ -1,7 +1,7 @@
 //! Packages, journals and calls by hand, for the tests of all commands.
 ghost use Rattle.std.specs.Prelude.{◌≡◌, IfOk, All, IsUtf8, [], false};
 
-use redl_app::{Status, run, run_surely};
+use redl_app::{Bringing, Status, run, run_surely};
 use redl_io::{MemShelf, MemSink, Shelf, Sink, SureShelf, Text};
 use redl_listing::RowFormat;
 use redl_page::Skin;
@@ -159,15 +159,12 @@ pub(super) fn call_surely(
     err: &mut MemSink,
 ) -> Result<Status, AllocError> {
     let words = words_of(alloc, line)?;
-    Ok(run_surely(
-        alloc,
-        &words,
-        shelf,
-        err,
-        &mut Vec::new(alloc),
-        &mut Vec::new(alloc),
-        &SKIN,
-    ))
+    let mut brings = Bringing {
+        formats: Vec::new(alloc),
+        reports: Vec::new(alloc),
+        skin: SKIN,
+    };
+    Ok(run_surely(alloc, &words, shelf, err, &mut brings))
 }
 
 /// Does the call with the words of this line over this shelf.

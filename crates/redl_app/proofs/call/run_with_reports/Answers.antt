@@ -7,24 +7,24 @@ use Rattle.redl_app.proofs.call.run_with_reports.Goals as goal
 
 pub returns-clause-answers : goal.returns-clause-answers
 returns-clause-answers g c = with_reports
-    (λ brought. Answers g.F.Shelf.told g.F.Shelf.faults g.F.Shelf.asked c.args.shelf.now c.run.new.shelf g.O.Sink.told g.O.Sink.faults c.args.out.now c.run.new.out
-    g.E.Sink.told g.E.Sink.faults c.args.err.now c.run.new.err c.args.words.now brought c.run.result)
-    _ _ report_formats (skin_view c.args.skin.now)
+    (λ brought. Answers g.F.Shelf.told g.F.Shelf.faults g.F.Shelf.asked c.args.shelf.now c.run_by.new.shelf g.O.Sink.told g.O.Sink.faults c.args.out.now c.run_by.new.out
+    g.E.Sink.told g.E.Sink.faults c.args.err.now c.run_by.new.err c.args.words.now brought c.run_by.result)
+    _ _ report_formats (skin_view c.args.showing.skin)
     (record {
-      status = c.run.ensures.status;
-      usage = c.run.ensures.usage;
-      read = c.run.ensures.read;
-      write = c.run.ensures.write;
-      asked = c.run.ensures.asked;
-      unasked = c.run.ensures.unasked;
-      shelf_stands = c.run.ensures.shelf_stands;
-      out_stands = c.run.ensures.out_stands;
-      same_files = c.run.ensures.same_files;
-      bytes = c.run.ensures.bytes;
-      left = c.run.ensures.left;
-      resumes = c.run.ensures.resumes;
-      untouched = c.run.ensures.untouched;
-      lines = c.run.ensures.lines;
+      status = c.run_by.ensures.status;
+      usage = c.run_by.ensures.usage;
+      read = c.run_by.ensures.read;
+      write = c.run_by.ensures.write;
+      asked = c.run_by.ensures.asked;
+      unasked = c.run_by.ensures.unasked;
+      shelf_stands = c.run_by.ensures.shelf_stands;
+      out_stands = c.run_by.ensures.out_stands;
+      same_files = c.run_by.ensures.same_files;
+      bytes = c.run_by.ensures.bytes;
+      left = c.run_by.ensures.left;
+      resumes = c.run_by.ensures.resumes;
+      untouched = c.run_by.ensures.untouched;
+      lines = c.run_by.ensures.lines;
     })
     (views-added _ _ _ _ _ _ _
     (views-added _ _ _ _ _ _ _

@@ -2,13 +2,15 @@
 use Rattle.redl_commands.specs.Views.{writing_view}
 use Rattle.redl_inputs.proofs.ReadLaws.{reads_nothing}
 use Rattle.redl_inputs.specs.Views.{result_view}
+use Rattle.redl_lines.specs.Ends.{end_status, end_view}
+use Rattle.redl_app.proofs.BroughtLaws.{leaves_same}
 use Rattle.redl_app.proofs.commands.carry_out.Goals as goal
 
-pub list_package-requires-clause-name : goal.list_package-requires-clause-name
-list_package-requires-clause-name g c = (rw c.in-List.is at c.requires.utf8).1
+pub list-requires-clause-name : goal.list-requires-clause-name
+list-requires-clause-name g c = (rw c.in-List.is at c.requires.utf8).1
 
-pub list_package-requires-clause-utf8 : goal.list_package-requires-clause-utf8
-list_package-requires-clause-utf8 g c = (rw c.in-List.is at c.requires.utf8).3
+pub list-requires-clause-utf8 : goal.list-requires-clause-utf8
+list-requires-clause-utf8 g c = (rw c.in-List.is at c.requires.utf8).3
 
 pub put_page-requires : goal.put_page-requires
 put_page-requires g c = (rw c.in-Page.is at c.requires.utf8).4
@@ -35,15 +37,15 @@ returns-in-Text-clause-ends g c = record {
 
 pub returns-in-List-clause-ends : goal.returns-in-List-clause-ends
 returns-in-List-clause-ends g c = record {
-  made = result_view writing_view c.list_package.result;
-  reads = rw (c.in-List.is, c.unwrap-in-List.ensures) c.list_package.ensures.read;
+  made = result_view writing_view c.list.result;
+  reads = rw (c.in-List.is, c.unwrap-in-List.ensures) c.list.ensures.read;
   finishes = c.put-in-List.ensures;
 }
 
 pub returns-in-Page-clause-ends : goal.returns-in-Page-clause-ends
 returns-in-Page-clause-ends g c = record {
   made = c.put_page.ensures.made;
-  reads = rw (c.in-Page.is, c.unwrap-in-Page.ensures) c.put_page.ensures.reads;
+  reads = rw (c.in-Page.is, c.unwrap-in-Page.ensures, ← c.skin.ensures) c.put_page.ensures.reads;
   finishes = c.put_page.ensures.finishes;
 }
 
@@ -91,16 +93,16 @@ returns-in-Sample-clause-ends g c = record {
   finishes = c.put-in-Sample.ensures;
 }
 
-pub report_package-requires-clause-name : goal.report_package-requires-clause-name
-report_package-requires-clause-name g c = (rw c.in-Report.is at c.requires.utf8).1
+pub report-requires-clause-name : goal.report-requires-clause-name
+report-requires-clause-name g c = (rw c.in-Report.is at c.requires.utf8).1
 
-pub report_package-requires-clause-utf8 : goal.report_package-requires-clause-utf8
-report_package-requires-clause-utf8 g c = (rw c.in-Report.is at c.requires.utf8).3
+pub report-requires-clause-utf8 : goal.report-requires-clause-utf8
+report-requires-clause-utf8 g c = (rw c.in-Report.is at c.requires.utf8).3
 
 pub returns-in-Report-clause-ends : goal.returns-in-Report-clause-ends
 returns-in-Report-clause-ends g c = record {
-  made = result_view writing_view c.report_package.result;
-  reads = rw (c.in-Report.is, c.unwrap-in-Report.ensures) c.report_package.ensures.read;
+  made = result_view writing_view c.report.result;
+  reads = rw (c.in-Report.is, c.unwrap-in-Report.ensures) c.report.ensures.read;
   finishes = c.put-in-Report.ensures;
 }
 
@@ -119,3 +121,9 @@ returns-in-Resume-clause-ends g c = record {
   reads = rw (c.in-Resume.is, c.unwrap-in-Resume.ensures) c.resume_package.ensures;
   finishes = c.put-in-Resume.ensures;
 }
+
+pub returns-in-List-clause-reports : goal.returns-in-List-clause-reports
+returns-in-List-clause-reports g c = rw c.in-List.is (leaves_same (end_status (end_view c.put-in-List.result)) (g.B.Brings.reports c.args.brings.now) (g.B.Brings.reports c.list.new.self) c.list.ensures.reports)
+
+pub returns-in-Report-clause-formats : goal.returns-in-Report-clause-formats
+returns-in-Report-clause-formats g c = rw c.in-Report.is (leaves_same (end_status (end_view c.put-in-Report.result)) (g.B.Brings.formats c.args.brings.now) (g.B.Brings.formats c.report.new.self) c.report.ensures.formats)

@@ -3,7 +3,6 @@ use Rattle.std.specs.Option.{option_copied}
 use Rattle.redl_outcome.proofs.FormatLaws.{asked_is_no_file, ends_after, ends_at_once}
 use Rattle.redl_outcome.proofs.PlanLaws.{reads_alone, reads_no_package, reads_package}
 use Rattle.redl_outcome.specs.Files.{file_names}
-use Rattle.redl_outcome.specs.Brought.{brought_by}
 use Rattle.redl_outcome.specs.Plans.{has_asked, made_by, package_of, plan}
 use Rattle.redl_lines.specs.Failures.{failure_view}
 use Rattle.redl_words.specs.Views.{command_of}
@@ -11,17 +10,17 @@ use Rattle.redl_app.proofs.top.end_of_command.Goals as goal
 
 pub returns-in-Err-clause-ends : goal.returns-in-Err-clause-ends
 returns-in-Err-clause-ends g c =
-    let brought = brought_by (λ b. (goal.RowFormat-dyn g (b.vtable, b.value)).format_name b.value) (λ b. (goal.RowFormat-dyn g (b.vtable, b.value)).text_for b.value) c.args.formats.now.items (λ b. (goal.ReportFormat-dyn g (b.vtable, b.value)).report_name b.value) (λ b. (goal.ReportFormat-dyn g (b.vtable, b.value)).report_text b.value) c.args.reports.now.items c.args.skin.now in
+    let brought = g.B.Brings.brought c.args.brings.now in
     let asked = plan (command_of c.args.command.now) in
-    let absent : has_asked brought asked ≡ Err (failure_view c.in-Err.failure) = sym (rw (c.deref.ensures.value, c.deref-2.ensures.value) at (c.in-Err.ensures.asked c.args.skin.now)) in
+    let absent : has_asked brought asked ≡ Err (failure_view c.in-Err.failure) = sym c.in-Err.ensures.asked in
     ends_at_once _ _ (has_asked brought asked) (file_names asked) (λ reader files. made_by reader files brought asked.makes) (failure_view c.in-Err.failure)
     absent (asked_is_no_file brought.formats brought.reports asked.format asked.report (failure_view c.in-Err.failure) absent)
 
 pub returns-in_default-package-clause-ends : goal.returns-in_default-package-clause-ends
 returns-in_default-package-clause-ends g c =
-    let brought = brought_by (λ b. (goal.RowFormat-dyn g (b.vtable, b.value)).format_name b.value) (λ b. (goal.RowFormat-dyn g (b.vtable, b.value)).text_for b.value) c.args.formats.now.items (λ b. (goal.ReportFormat-dyn g (b.vtable, b.value)).report_name b.value) (λ b. (goal.ReportFormat-dyn g (b.vtable, b.value)).report_text b.value) c.args.reports.now.items c.args.skin.now in
+    let brought = g.B.Brings.brought c.args.brings.now in
     let asked = plan (command_of c.args.command.now) in
-    let there : has_asked brought asked ≡ Ok tt = sym (rw (c.deref.ensures.value, c.deref-2.ensures.value) at (c.in_default.ensures.asked c.args.skin.now)) in
+    let there : has_asked brought asked ≡ Ok tt = sym c.in_default.ensures.asked in
     let none : package_of asked.makes ≡ None = sym c.package.ensures ∙ ap option_copied c.in_default-package.is in
     ends_after _ (has_asked brought asked) (file_names asked) (λ reader files. made_by reader files brought asked.makes) tt there
     (record {
@@ -32,23 +31,23 @@ returns-in_default-package-clause-ends g c =
 
 pub returns-in-Ok-clause-ends : goal.returns-in-Ok-clause-ends
 returns-in-Ok-clause-ends g c =
-    let brought = brought_by (λ b. (goal.RowFormat-dyn g (b.vtable, b.value)).format_name b.value) (λ b. (goal.RowFormat-dyn g (b.vtable, b.value)).text_for b.value) c.args.formats.now.items (λ b. (goal.ReportFormat-dyn g (b.vtable, b.value)).report_name b.value) (λ b. (goal.ReportFormat-dyn g (b.vtable, b.value)).report_text b.value) c.args.reports.now.items c.args.skin.now in
+    let brought = g.B.Brings.brought c.args.brings.now in
     let asked = plan (command_of c.args.command.now) in
-    let there : has_asked brought asked ≡ Ok tt = sym (rw (c.deref.ensures.value, c.deref-2.ensures.value) at (c.in_default.ensures.asked c.args.skin.now)) in
+    let there : has_asked brought asked ≡ Ok tt = sym c.in_default.ensures.asked in
     let some : package_of asked.makes ≡ Some c.in-Some.name.now = sym c.package.ensures ∙ ap option_copied c.in-Some.is in
     ends_after _ (has_asked brought asked) (file_names asked) (λ reader files. made_by reader files brought asked.makes) tt there
     (record {
       made = c.carry_out-in-Ok.ensures.ends.made;
       reads = reads_package brought asked.makes asked.journals c.in-Some.name.now c.in-Ok.text.items some c.in-Ok.ensures
-          (rw c.deref-in-Ok.ensures.value at c.carry_out-in-Ok.ensures.ends.reads);
+          (rw c.deref.ensures.value at c.carry_out-in-Ok.ensures.ends.reads);
       finishes = c.carry_out-in-Ok.ensures.ends.finishes;
     })
 
 pub returns-in-Err-fetch_package-clause-ends : goal.returns-in-Err-fetch_package-clause-ends
 returns-in-Err-fetch_package-clause-ends g c =
-    let brought = brought_by (λ b. (goal.RowFormat-dyn g (b.vtable, b.value)).format_name b.value) (λ b. (goal.RowFormat-dyn g (b.vtable, b.value)).text_for b.value) c.args.formats.now.items (λ b. (goal.ReportFormat-dyn g (b.vtable, b.value)).report_name b.value) (λ b. (goal.ReportFormat-dyn g (b.vtable, b.value)).report_text b.value) c.args.reports.now.items c.args.skin.now in
+    let brought = g.B.Brings.brought c.args.brings.now in
     let asked = plan (command_of c.args.command.now) in
-    let there : has_asked brought asked ≡ Ok tt = sym (rw (c.deref.ensures.value, c.deref-2.ensures.value) at (c.in_default.ensures.asked c.args.skin.now)) in
+    let there : has_asked brought asked ≡ Ok tt = sym c.in_default.ensures.asked in
     let some : package_of asked.makes ≡ Some c.in-Some.name.now = sym c.package.ensures ∙ ap option_copied c.in-Some.is in
     ends_after _ (has_asked brought asked) (file_names asked) (λ reader files. made_by reader files brought asked.makes) tt there
     (record {

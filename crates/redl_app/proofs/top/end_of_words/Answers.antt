@@ -1,6 +1,5 @@
 use Rattle.std.proofs.Common.{ap, refl}
 use Rattle.redl_outcome.proofs.WordLaws.{ends_when, ends_unread}
-use Rattle.redl_outcome.specs.Brought.{brought_by}
 use Rattle.redl_lines.specs.Ends.{failed}
 use Rattle.redl_app.proofs.top.end_of_words.Goals as goal
 
@@ -11,7 +10,7 @@ pub returns-in-Ok-clause-ends : goal.returns-in-Ok-clause-ends
 returns-in-Ok-clause-ends g c = rw c.in-Ok.is (λ due wanted. ends_when due wanted c.end_of_command.ensures.ends)
 
 pub returns-in-Err-clause-ends : goal.returns-in-Err-clause-ends
-returns-in-Err-clause-ends g c = rw (c.in-Err.is, c.failure_of.ensures) (λ due wanted. ends_unread (brought_by (λ b. (goal.RowFormat-dyn g (b.vtable, b.value)).format_name b.value) (λ b. (goal.RowFormat-dyn g (b.vtable, b.value)).text_for b.value) c.args.formats.now.items (λ b. (goal.ReportFormat-dyn g (b.vtable, b.value)).report_name b.value) (λ b. (goal.ReportFormat-dyn g (b.vtable, b.value)).report_text b.value) c.args.reports.now.items c.args.skin.now) _ _ c.in-Err.error due wanted)
+returns-in-Err-clause-ends g c = rw (c.in-Err.is, c.failure_of.ensures) (λ due wanted. ends_unread (g.B.Brings.brought c.args.brings.now) _ _ c.in-Err.error due wanted)
 
 pub returns-in-Err-clause-words : goal.returns-in-Err-clause-words
 returns-in-Err-clause-words g c = rw c.in-Err.is (ap failed c.failure_of.ensures)
