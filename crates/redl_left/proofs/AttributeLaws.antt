@@ -1,7 +1,7 @@
 -- A tail that lacks a word has no attribute with that name.
 use Rattle.std.proofs.Common.{◌≡◌, ◌∙◌, refl, sym, ap, ℕ, zero, suc, ◌==◌, length, List, [], ◌∷◌, ◌++◌, Bool, true, false, true≢false, not, ◌&&◌, cond, bytes_eq, find, Option, None, Some}
 use Rattle.std.specs.Option.{option_map}
-use Rattle.std.proofs.lemmas.Bool.{and_from, eq-eqb}
+use Rattle.std.proofs.lemmas.Bool.{and_from, and_parts, eq-eqb, not-true}
 use Rattle.redl_grammar.specs.Names.{Name, name_text as qualified_text}
 use Rattle.redl_grammar.specs.ScanTags.{attribute_in}
 use Rattle.redl_grammar.specs.Tails.{Attribute, attribute_then}
@@ -27,6 +27,26 @@ local_lacks w ws (p ∷ ps) local h = lacks-rest w ws (58 ∷ []) local (lacks-r
 
 pub both_false : (a b : Bool) → a ≡ false → (a && b) ≡ false
 both_false a b e = ap (λ (t : Bool). t && b) e
+
+-- ---- a longer word
+
+not_here : (w : ℕ) (ws t : List ℕ) → lacks (w ∷ ws) t ≡ true → begins (w ∷ ws) t ≡ false
+not_here w ws [] h = refl
+not_here w ws (b ∷ bs) h = not-true (begins (w ∷ ws) (b ∷ bs)) (and_parts (not (begins (w ∷ ws) (b ∷ bs))) (lacks (w ∷ ws) bs) h).0
+
+and_none : (a b : Bool) → b ≡ false → (a && b) ≡ false
+and_none true b e = e
+and_none false b e = refl
+
+-- a text that lacks a word lacks each longer one that ends with it
+pub lacks-behind : (v w : ℕ) (ws t : List ℕ) → lacks (w ∷ ws) t ≡ true → lacks (v ∷ w ∷ ws) t ≡ true
+lacks-behind v w ws [] h = refl
+lacks-behind v w ws (b ∷ bs) h =
+    let later = (and_parts (not (begins (w ∷ ws) (b ∷ bs))) (lacks (w ∷ ws) bs) h).1 in
+    and_from (not (begins (v ∷ w ∷ ws) (b ∷ bs))) (lacks (v ∷ w ∷ ws) bs)
+    (ap not (and_none (b == v) (begins (w ∷ ws) bs) (not_here w ws bs later))) (lacks-behind v w ws bs later)
+
+-- ---- names
 
 -- a word begins with itself
 begins-self : (ws : List ℕ) → begins ws ws ≡ true

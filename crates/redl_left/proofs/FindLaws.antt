@@ -19,7 +19,7 @@ use Rattle.redl_left.specs.declared.row.Row.{Row}
 use Rattle.redl_left.specs.declared.row.Where.{Where}
 use Rattle.redl_left.specs.declared.row.Where.TheVariants.{Word, AnyWord, Inside, Part}
 use Rattle.redl_left.specs.declared.row.Value.{Value}
-use Rattle.redl_left.specs.declared.row.Value.TheVariants.{Nothing, Attribute, Made, Shown, Held, Lead}
+use Rattle.redl_left.specs.declared.row.Value.TheVariants.{Nothing, Attribute, Author, Made, Shown, Held, Lead}
 use Rattle.redl_left.specs.declared.walk.Below.{Below}
 use Rattle.redl_left.specs.Finds.{Find, Table, asks, asks_place, asks_when, first_row, found, found_by, found_idle, found_names, found_plain, found_row, found_text, found_value, inner_shown, kind_in, shown_alone, part_of, is_part_name, value_of, value_or_nothing, finds}
 use Rattle.redl_left.specs.Named.{named_of}
@@ -55,6 +55,7 @@ value_same : (part : List ℕ) (value : Value) (local tail : List ℕ) (kids : N
     → value_of part value spaces.W local tail kids ≡ value_of part value spaces.W local tail no_nodes
 value_same part Nothing local tail kids = refl
 value_same part (Attribute name) local tail kids = refl
+value_same part Author local tail kids = refl
 value_same part Made local tail kids = refl
 value_same part Shown local tail kids = refl
 value_same part (Held name) local tail kids = refl

@@ -133,3 +133,8 @@ among_none table part (suc n) tail quotes others = by (attribute_in tail) refl (
 pub names_none : (table : Table) (tail : List ℕ) → after (is_other 39) tail ≡ [] → QuotesNone table tail → (part : List ℕ) → found_names table part tail ≡ []
 unfolding attributes_of
 names_none table tail none quotes part = among_none table part (suc (length tail)) tail quotes (none_left tail none)
+
+-- an empty tail has no values
+pub no_names : (table : Table) (part : List ℕ) → found_names table part [] ≡ []
+unfolding attributes_of attribute_in
+no_names table part = refl

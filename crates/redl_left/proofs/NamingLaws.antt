@@ -1,12 +1,12 @@
 -- A kept text in which neither `author` nor `Reference` is holds nothing that names a comment, a note or an author.
-use Rattle.std.proofs.Common.{◌≡◌, ◌∙◌, refl, sym, ap, subst, List, ℕ, [], ◌∷◌, ◌++◌, Bool, true, false, true≢false, cond, bytes_eq, codes, find, is_some, Option, None, Some}
+use Rattle.std.proofs.Common.{◌≡◌, ◌∙◌, refl, sym, ap, subst, List, ℕ, [], ◌∷◌, ◌++◌, Bool, true, false, true≢false, cond, bytes_eq, codes, find, Option, None, Some}
+use Rattle.std.specs.Prelude.{take, drop}
 use Rattle.std.specs.List.{AllByRecursion}
 use Rattle.std.proofs.lemmas.Bool.{and_parts}
 use Rattle.redl_markup.specs.Attributes.{attributes_of}
 use Rattle.redl_pairs.proofs.ElementLaws.{lacking}
 use Rattle.redl_pairs.proofs.WordLaws.{lacks-rest}
 use Rattle.redl_reading.specs.Lists.{lacks}
-use Rattle.redl_stamp.specs.Attribute.{attribute_value}
 use Rattle.redl_tree.specs.Model.IdleTexts.{is_idle_text, idle_nodes}
 use Rattle.redl_tree.specs.Model.Laid.{AreLaid}
 use Rattle.redl_tree.specs.Model.Nodes.{Tag, Nodes, no_nodes, bytes, element}
@@ -19,11 +19,15 @@ use Rattle.redl_tree.proofs.Idle.Items.{laid_nodes, nodes_are_idle}
 use Rattle.redl_tree.proofs.Idle.Tags.{Idle, idle_parts}
 use Rattle.redl_tree.proofs.Reading.FoldLaws.{always_laid}
 use Rattle.redl_tree.proofs.Reading.SameBytes.{same_bytes}
-use Rattle.redl_left.specs.Finds.{Find, asks, first_row, found, found_names, found_row, finds, part_of}
+use Rattle.redl_left.specs.Finds.{Find, asks, first_row, found, found_names, found_row, found_value, finds, part_of, value_or_nothing}
 use Rattle.redl_left.specs.Lines.{naming}
 use Rattle.redl_left.specs.Naming.{lacks_naming}
 use Rattle.redl_left.specs.declared.fact.Fact.{Fact}
+use Rattle.redl_left.specs.declared.fact.Fact.TheVariants as facts
 use Rattle.redl_left.specs.declared.row.Row.{Row}
+use Rattle.redl_left.specs.declared.row.Value.TheVariants.{Author}
+use Rattle.redl_left.specs.declared.row.When.TheVariants.{Always}
+use Rattle.redl_left.specs.declared.row.Where.TheVariants.{AnyWord}
 use Rattle.redl_left.specs.declared.rows.TheConstants.{NAMING}
 use Rattle.redl_left.proofs.AttributeLaws.{both_false, no_value, other_name}
 use Rattle.redl_left.proofs.FindLaws.{is_space_w}
@@ -44,23 +48,24 @@ not_idle in_run name local idle other = by (bytes_eq local name) refl
 abbrev none : Fact → List ℕ → Bool
 none fact value = false
 
-find_none : (test : Row → Bool) (rows : List Row) → AllByRecursion (λ row. test row ≡ false) rows → find test rows ≡ None
-find_none test [] each = refl
-find_none test (row ∷ rows) each = ap (λ (b : Bool). cond b (Some row) (find test rows)) each.0 ∙ find_none test rows each.1
+-- the row of authors, which asks for each element of W that none before it asks for
+abbrev author_row : Row
+author_row = record { fact = facts.Name; place = AnyWord; when = Always; value = Author }
 
-no_row : (in_run : Bool) (parent local tail : List ℕ) → is_idle_name in_run local ≡ true → lacks (codes "Reference") local ≡ true → attribute_value tail (codes "author") ≡ None
-    → first_row none NAMING parent spaces.W local tail ≡ None
-no_row in_run parent local tail idle lacking no_author =
+find_after : (test : Row → Bool) (rows more : List Row) → AllByRecursion (λ row. test row ≡ false) rows → find test (rows ++ more) ≡ find test more
+find_after test [] more each = refl
+find_after test (row ∷ rows) more each = ap (λ (b : Bool). cond b (Some row) (find test (rows ++ more))) each.0 ∙ find_after test rows more each.1
+
+only_author : (in_run : Bool) (parent local tail : List ℕ) → is_idle_name in_run local ≡ true → lacks (codes "Reference") local ≡ true
+    → first_row none NAMING parent spaces.W local tail ≡ Some author_row
+only_author in_run parent local tail idle lacking =
     let reference : (name : List ℕ) → lacks (codes "Reference") name ≡ false → bytes_eq local name ≡ false = λ name has. other_name 82 (codes "eference") name local lacking has in
     let part_of_note : (name : List ℕ) → is_idle_name in_run name ≡ false → bytes_eq local name ≡ false = λ name other. not_idle in_run name local idle other in
-    find_none (asks none parent spaces.W local tail) NAMING (
+    find_after (asks none parent spaces.W local tail) (take 5 NAMING) (drop 5 NAMING) (
       both_false _ _ (reference (codes "commentReference") refl),
       (
         both_false _ _ (reference (codes "footnoteReference") refl),
-        (
-          both_false _ _ (reference (codes "endnoteReference") refl),
-          (both_false _ _ (part_of_note (codes "footnote") refl), (both_false _ _ (part_of_note (codes "endnote") refl), (ap is_some no_author, (refl, (refl, (refl, (refl, (refl, tt)))))))),
-        ),
+        (both_false _ _ (reference (codes "endnoteReference") refl), (both_false _ _ (part_of_note (codes "footnote") refl), (both_false _ _ (part_of_note (codes "endnote") refl), tt))),
       ),
     )
 
@@ -71,7 +76,8 @@ found_none : (part parent : List ℕ) (in_run : Bool) (tag : Tag) (kids : Nodes)
 found_none part parent in_run tag kids i local tail =
     let names = found_names naming part tag.tail in
     ap (λ (s : Space). found_row part s tag.local tag.tail kids (first_row none NAMING parent s tag.local tag.tail) ++ names) (is_space_w tag.space i.space)
-    ∙ ap (λ (o : Option Row). found_row part spaces.W tag.local tag.tail kids o ++ names) (no_row in_run parent tag.local tag.tail i.name local (no_value (codes "author") tag.tail tail))
+    ∙ ap (λ (o : Option Row). found_row part spaces.W tag.local tag.tail kids o ++ names) (only_author in_run parent tag.local tag.tail i.name local)
+    ∙ ap (λ (o : Option (List ℕ)). found_value part author_row (value_or_nothing o) ++ names) (no_value (codes "author") tag.tail tail)
     ∙ none_among naming (λ value. refl) part (attributes_of tag.tail)
 
 naming_in : (in_run : Bool) (part parent : List ℕ) (x : Nodes) → is_idle_in in_run x ≡ true → AreLaid spaces.W x

@@ -30,7 +30,7 @@ use Rattle.redl_left.specs.declared.row.Where.TheVariants.{Word, AnyWord, Inside
 use Rattle.redl_left.specs.declared.row.When.{When}
 use Rattle.redl_left.specs.declared.row.When.TheVariants.{Always, On, Has, HasFront, Is, Begins, Ends, Separates, Spare, Led}
 use Rattle.redl_left.specs.declared.row.Value.{Value}
-use Rattle.redl_left.specs.declared.row.Value.TheVariants.{Nothing, Attribute, Made, Shown, Held, Lead}
+use Rattle.redl_left.specs.declared.row.Value.TheVariants.{Nothing, Attribute, Author, Made, Shown, Held, Lead}
 use Rattle.redl_left.specs.declared.row.Row.{Row}
 
 -- a find: the fact, the part that it is in, and what is told of it
@@ -158,6 +158,7 @@ lead_from part target = target_name (target_name part (codes ".")) target
 abbrev pub value_of : List ℕ → Value → Space → List ℕ → List ℕ → Nodes → List ℕ
 value_of part Nothing space local tail kids = []
 value_of part (Attribute name) space local tail kids = value_or_nothing (attribute_value tail (name_text name))
+value_of part Author space local tail kids = value_or_nothing (attribute_value tail (codes "author"))
 value_of part Made space local tail kids = local ++ by_whom (attribute_value tail (codes "author"))
 value_of part Shown space local tail kids = shown_alone space kids
 value_of part (Held name) space local tail kids = value_or_nothing (attribute_value tail (name_text name)) ++ after_colon (inner_of space kids)
@@ -206,9 +207,10 @@ abbrev pub found_member : List ℕ → Option Fact → List Find
 found_member part None = []
 found_member part (Some fact) = record { fact = fact; part = part; value = [] } ∷ []
 
--- an element that shows nothing is no find of a row that tells what it shows
+-- an element that shows nothing is no find of a row that tells what it shows, nor is one that names nobody of a row that tells who made it
 abbrev pub is_nothing : Value → List ℕ → Bool
 is_nothing Shown value = length value == 0
+is_nothing Author value = length value == 0
 is_nothing _ value = false
 
 abbrev pub found_value : List ℕ → Row → List ℕ → List Find

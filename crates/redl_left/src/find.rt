@@ -1,10 +1,10 @@
 //! What an element is found to be.
 
-ghost use Rattle.std.specs.Prelude.{◌≡◌, ◌∷◌, true, is_some, IfOk, IsTrue, not, codes};
+ghost use Rattle.std.specs.Prelude.{◌≡◌, IfOk, not, codes};
 ghost use Rattle.std.specs.List.{list_any};
 ghost use Rattle.std.specs.Option.{option_copied};
 ghost use Rattle.redl_markup.specs.Attributes.{attributes_of};
-ghost use Rattle.redl_reading.specs.Lists.{begins, lacks};
+ghost use Rattle.redl_reading.specs.Lists.{begins};
 ghost use Rattle.redl_stamp.specs.Attribute.{attribute_value};
 ghost use Rattle.redl_left.specs.Names.{name_text};
 ghost use Rattle.redl_left.specs.Named.{named_of};
@@ -15,7 +15,6 @@ use crate::name::Name;
 use crate::named::Named;
 use crate::row::{Row, When, Where};
 use redl_markup::next_attribute;
-use redl_pairs::lacks_pairs;
 use redl_reading::skip;
 use redl_stamp::{attribute, has_attribute};
 use redl_tree::{Kind, Prop, Space, Trace};
@@ -114,36 +113,6 @@ fn has_front(alloc: Global, tail: &[u8], name: Name, front: Name) -> Result<bool
     }
 }
 
-// Whether it is plain by the first two bytes of a name that it is nowhere in a tail.
-fn lacks_front(tail: &[u8], name: &[u8]) -> bool
-    ensures { IsTrue result → lacks name.now tail.now ≡ true }
-{
-    match name.split_first() {
-        Some((first, more)) => lacks_two(tail, *first, more),
-        None => false,
-    }
-}
-
-// The same of a name of which this byte is the first one.
-fn lacks_two(tail: &[u8], first: u8, more: &[u8]) -> bool
-    ensures { IsTrue result → lacks (first ∷ more.now) tail.now ≡ true }
-{
-    match more.split_first() {
-        Some((second, _)) => lacks_pairs(tail, (first, *second), (first, *second)),
-        None => false,
-    }
-}
-
-// Whether a tag with this tail has an attribute.
-fn has(tail: &[u8], name: &[u8]) -> bool
-    ensures { result ≡ is_some (attribute_value tail.now name.now) }
-{
-    if lacks_front(tail, name) {
-        return false;
-    }
-    has_attribute(tail, name)
-}
-
 // Whether a tag with this tail has an attribute whose name begins so.
 fn has_front_name(tail: &[u8], front: &[u8]) -> bool
     ensures { result ≡ list_any (λ attribute. begins front.now attribute.0.local) (attributes_of tail.now) }
@@ -201,7 +170,7 @@ fn asks_when(alloc: Global, named: &Named<'_>, when: &When, tail: &[u8]) -> Resu
     match when {
         When::Always => Ok(true),
         When::On => is_on(alloc, tail),
-        When::Has(name) => Ok(has(tail, name.text())),
+        When::Has(name) => Ok(has_attribute(tail, name.text())),
         When::HasFront(name) => Ok(has_front_name(tail, name.text())),
         When::Is(name, wanted) => has_value(alloc, tail, *name, *wanted),
         When::Begins(name, front) => has_front(alloc, tail, *name, *front),

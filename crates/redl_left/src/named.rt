@@ -109,6 +109,13 @@ impl<'a> Values<'a> {
         }
     }
 
+    // Whether there are none.
+    fn is_empty(&self) -> bool
+        ensures { IsTrue result → (value : List ℕ) → has_value self.now value ≡ false }
+    {
+        self.by_front.is_empty()
+    }
+
     // Whether it is plain that none begins with this byte.
     fn none_begins(&self, first: u8) -> bool
         ensures { IsTrue result → (rest : List ℕ) → has_value self.now (first ∷ rest) ≡ false }
@@ -141,11 +148,14 @@ impl<'a> Named<'a> {
         Ok(Named { tables: all })
     }
 
-    /// Whether nothing is named.
-    pub(crate) fn is_empty(&self) -> bool
-        ensures { IsTrue result → (fact : Fact) (value : List ℕ) → named_of self.now fact value ≡ false }
+    /// Whether no value is named for a fact.
+    pub(crate) fn names_nothing(&self, fact: Fact) -> bool
+        ensures { IsTrue result → (value : List ℕ) → named_of self.now fact value ≡ false }
     {
-        self.tables.is_empty()
+        match self.tables.get(fact.number()) {
+            Some(values) => values.is_empty(),
+            None => true,
+        }
     }
 
     /// Whether it is plain that no value with this first byte is named for a fact.

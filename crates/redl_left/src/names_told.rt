@@ -86,7 +86,7 @@ fn note_shown(
     note_told(search, part, text.as_bytes(), seen)
 }
 
-/// The same; where nothing is named, nothing is looked at.
+/// The same; where no author is named, nothing is looked at.
 pub(crate) fn note_text(
     search: &Search<'_>,
     part: &[u8],
@@ -95,7 +95,7 @@ pub(crate) fn note_text(
 ) -> Result<(), AllocError>
     ensures { OnOk result (tables_of seen.new ≡ noted_all (tables_of seen.old) (found_text (table_of search.now) part.now bytes.now)) }
 {
-    if search.names_nothing() {
+    if search.names_nothing(Fact::Name) {
         return Ok(());
     }
     note_shown(search, part, bytes, seen)
@@ -136,6 +136,9 @@ fn quotes_none(search: &Search<'_>, tail: &[u8]) -> bool
 fn names_none(search: &Search<'_>, tail: &[u8]) -> bool
     ensures { IsTrue result → (part : List ℕ) → found_names (table_of search.now) part tail.now ≡ [] }
 {
+    if tail.is_empty() {
+        return true;
+    }
     far_until(tail, b'\'').1.is_empty() && quotes_none(search, tail)
 }
 
@@ -187,7 +190,7 @@ fn note_among(
     Ok(())
 }
 
-/// The same; where nothing is named, or none of the values begins as a name does, the attributes aren't read.
+/// The same; where no author is named, or none of the values begins as a name does, the attributes aren't read.
 pub(crate) fn note_names(
     search: &Search<'_>,
     part: &[u8],
@@ -196,7 +199,7 @@ pub(crate) fn note_names(
 ) -> Result<(), AllocError>
     ensures { OnOk result (tables_of seen.new ≡ noted_all (tables_of seen.old) (found_names (table_of search.now) part.now tail.now)) }
 {
-    if search.names_nothing() {
+    if search.names_nothing(Fact::Name) {
         return Ok(());
     }
     if names_none(search, tail) {

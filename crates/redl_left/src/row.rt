@@ -48,6 +48,8 @@ pub enum Value {
     Nothing,
     /// This attribute.
     Attribute(Name),
+    /// Who made it, where somebody is named.
+    Author,
     /// Its local name, and who made it.
     Made,
     /// What it shows, unless it is of WordprocessingML.

@@ -40,8 +40,8 @@ pub static NAMING: [Row; 11] = [
     Row {
         fact: Fact::Name,
         place: Where::AnyWord,
-        when: When::Has(Name::Author),
-        value: Value::Attribute(Name::Author),
+        when: When::Always,
+        value: Value::Author,
     },
     // (so none of these is asked for by the rows that follow)
     Row {

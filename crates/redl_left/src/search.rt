@@ -5,7 +5,7 @@ ghost use Rattle.std.specs.Option.{option_copied};
 ghost use Rattle.redl_tree.specs.Model.IdleTexts.{is_idle_text, idle_nodes};
 ghost use Rattle.redl_tree.specs.Model.Text.{text};
 ghost use Rattle.redl_left.specs.declared.fact.Fact.{Fact};
-ghost use Rattle.redl_left.specs.declared.rows.TheConstants.{ROWS};
+ghost use Rattle.redl_left.specs.declared.rows.TheConstants.{NAMING, ROWS};
 ghost use Rattle.redl_left.specs.Finds.{finds, rows_table};
 ghost use Rattle.redl_left.specs.Lines.{naming};
 ghost use Rattle.redl_left.specs.Named.{named_of};
@@ -19,6 +19,9 @@ use crate::row::{Row, Where};
 use crate::rows::{NAMING, ROWS};
 use redl_pairs::{lacks_pairs, lacks_word};
 use std::alloc::{AllocError, Global};
+
+// The length of the shortest name that `NAMING` asks for.
+const SHORTEST: usize = 7;
 
 // The longest name for which the rows that may ask for it are listed.
 const LONGEST: usize = 27;
@@ -54,13 +57,13 @@ impl<'a> Search<'a> {
         }
     }
 
-    /// Whether nothing is named.
-    pub(crate) fn names_nothing(&self) -> bool
-        ensures { IsTrue result → (fact : Fact) (value : List ℕ) → (table_of self.now).named fact value ≡ false }
+    /// Whether no value is named for a fact.
+    pub(crate) fn names_nothing(&self, fact: Fact) -> bool
+        ensures { IsTrue result → (value : List ℕ) → (table_of self.now).named fact value ≡ false }
     {
         match self {
             Search::Naming => true,
-            Search::Asking { named, .. } => named.is_empty(),
+            Search::Asking { named, .. } => named.names_nothing(fact),
         }
     }
 
@@ -114,7 +117,18 @@ fn first_naming(alloc: Global, asked: &Asked<'_>) -> Result<Option<&'static Row>
     ensures { IfOk result (λ found. option_copied found ≡ naming.first asked.now.parent.now asked.now.space asked.now.local.now asked.now.tail.now) }
 {
     let nothing = Named::none(alloc);
-    first_row(alloc, &nothing, &NAMING, asked)
+    first_row(alloc, &nothing, naming_for(asked.local.len()), asked)
+}
+
+// The rows of `NAMING` that may ask for an element whose name has `size` bytes: the first five ask for longer names than most have.
+fn naming_for(size: usize) -> &'static [Row]
+    ensures { Agree NAMING size result.now }
+{
+    if size < SHORTEST {
+        &NAMING[5..]
+    } else {
+        &NAMING
+    }
 }
 
 // Whether neither `author` nor `Reference` is in a text. One of them is where a comment, a note or an author is named.

@@ -1,6 +1,7 @@
 //! What is told of an element.
 
-ghost use Rattle.std.specs.Prelude.{◌≡◌, ◌++◌, false, codes, IfOk, OnOk, unwrap_or};
+ghost use Rattle.std.specs.Prelude.{◌≡◌, ◌++◌, false, true, codes, IfOk, IsTrue, OnOk, unwrap_or};
+ghost use Rattle.redl_reading.specs.Lists.{lacks};
 ghost use Rattle.redl_shown.specs.Shown.{shown};
 ghost use Rattle.redl_tree.specs.Model.Kids.{has_element};
 ghost use Rattle.redl_tree.specs.Model.Nodes.{Nodes, no_nodes, in_front};
@@ -13,6 +14,7 @@ use crate::find::Asked;
 use crate::name::Name;
 use crate::row::Value;
 use redl_io::{MemSink, Text};
+use redl_pairs::lacks_pairs;
 use redl_relations::target_name;
 use redl_shown::put_shown;
 use redl_stamp::attribute;
@@ -31,6 +33,23 @@ pub(crate) fn attribute_or_nothing(
         Some(value) => Ok(value),
         None => Text::copy_of(alloc, b""),
     }
+}
+
+// Whether it is plain by two bytes of its name that a tail has no author. Its first two are in `rsidRDefault`.
+fn lacks_author(tail: &[u8]) -> bool
+    ensures { IsTrue result → lacks (codes "author") tail.now ≡ true }
+{
+    lacks_pairs(tail, (b't', b'h'), (b't', b'h'))
+}
+
+// Who made it, or nothing. `Err` means out of memory.
+fn author(alloc: Global, tail: &[u8]) -> Result<Text, AllocError>
+    ensures { IfOk result (λ text. text ≡ value_or_nothing (attribute_value tail.now (codes "author"))) }
+{
+    if lacks_author(tail) {
+        return Text::copy_of(alloc, b"");
+    }
+    attribute_or_nothing(alloc, tail, b"author")
 }
 
 // The local name, and who made it. `Err` means out of memory.
@@ -160,6 +179,7 @@ pub(crate) fn value_of(
     match value {
         Value::Nothing => Text::copy_of(alloc, b""),
         Value::Attribute(name) => attribute_or_nothing(alloc, asked.tail, name.text()),
+        Value::Author => author(alloc, asked.tail),
         Value::Made => made(alloc, asked.local, asked.tail),
         Value::Shown => shown_alone(alloc, asked.space, kids),
         Value::Held(name) => held(alloc, *name, asked, kids),

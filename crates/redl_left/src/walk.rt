@@ -42,7 +42,7 @@ fn is_nothing(value: &Value, told: &[u8]) -> bool
     ensures { result ≡ is_nothing value.now told.now }
 {
     match value {
-        Value::Shown => told.is_empty(),
+        Value::Author | Value::Shown => told.is_empty(),
         Value::Nothing | Value::Attribute(_) | Value::Made | Value::Held(_) | Value::Lead(_) => {
             false
         }
