@@ -174,10 +174,9 @@ fn answer(
     ensures gives { result.gives ≡ one_gives_by says.now above (tag_of elem.now) (kids_of elem.now) full }
     ensures taken { result.taken ≡ taken_after_by says.now above taken (tag_of elem.now) (kids_of elem.now) (nodes_of rest.now) full }
 {
-    let gives = one_gives(elem, says, above, full);
     Step {
-        gives,
-        taken: taken_after(elem, rest, says, above, taken, full, gives),
+        gives: one_gives(elem, says, above, full),
+        taken: taken_after(elem, rest, says, above, taken, full),
     }
 }
 
@@ -196,7 +195,7 @@ fn answer_of_walked(
 {
     Step {
         gives: true,
-        taken: taken_after(elem, rest, says, above, taken, full, true),
+        taken: taken_after(elem, rest, says, above, taken, full),
     }
 }
 
@@ -218,14 +217,15 @@ fn taken_after(
     above: ViewSummary,
     taken: Option<bool>,
     full: bool,
-    gives: bool,
 ) -> Option<bool>
-    requires { gives ≡ one_gives_by says.now above (tag_of elem.now) (kids_of elem.now) full }
     ensures { result ≡ taken_after_by says.now above taken (tag_of elem.now) (kids_of elem.now) (nodes_of rest.now) full }
 {
     // A paragraph that is cut is thick.
     if !is_thick(elem) {
-        return or_taken(taken, gives);
+        return match taken {
+            Some(had) => Some(had || one_gives(elem, says, above, full)),
+            None => None,
+        };
     }
     if is_cut_para(says, elem, above) && next_of(rest, says, above) == Next::Paragraph {
         return Some(has_taken(taken) || full);

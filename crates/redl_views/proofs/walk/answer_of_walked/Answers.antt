@@ -3,8 +3,5 @@ use Rattle.redl_tree.specs.Model.View.{tag_of, kids_of}
 use Rattle.redl_views.proofs.WalkLaws.{gives-walked}
 use Rattle.redl_views.proofs.walk.answer_of_walked.Goals as goal
 
-pub taken_after-requires : goal.taken_after-requires
-taken_after-requires c = sym (gives-walked c.args.says.now c.args.above (tag_of c.args.elem.now) (kids_of c.args.elem.now) c.args.full c.requires)
-
 pub returns-clause-gives : goal.returns-clause-gives
 returns-clause-gives c = sym (gives-walked c.args.says.now c.args.above (tag_of c.args.elem.now) (kids_of c.args.elem.now) c.args.full c.requires)
