@@ -1,8 +1,9 @@
 //! The words of a command line, as the program copies them.
 
-ghost use Rattle.std.specs.Prelude.{◌≡◌, ◌++◌, ◌∷◌, [], drop, map, All, IfOk, IsErr, IsUtf8, OnOk, OnErr};
+ghost use Rattle.std.specs.Prelude.{◌≡◌, ◌++◌, ◌∷◌, [], drop, map, All, IfOk, IfErr, IsErr, IsOk, IsUtf8, OnOk, OnErr};
 ghost use Rattle.std.specs.String.{string_bytes};
 ghost use Rattle.std.specs.Vec.Iter.{into_iter_items};
+ghost use Rattle.redl_words.specs.declared.error.WordsError.TheVariants.{NoMemory};
 
 use crate::error::WordsError;
 use redl_io::Text;
@@ -31,10 +32,12 @@ pub fn given_words(rt: &(impl Env + AllocGlobal)) -> Result<Vec<Text>, WordsErro
     words_of(rt.alloc(), env::args(rt))
 }
 
-/// The words after the program's name, of the arguments as the system gave them. `Usage` where one of them isn't UTF-8.
+/// The words after the program's name, of the arguments as the system gave them. `Usage` where one of them isn't UTF-8, and never where
+/// they could be read.
 pub fn words_of(alloc: Global, args: io::Result<Args>) -> Result<Vec<Text>, WordsError>
     ensures given { IfOk result (λ words. IfOk args (λ all. words.items ≡ map string_bytes (drop 1 (into_iter_items all)))) }
     ensures unread { IsErr args → IsErr result }
+    ensures no_memory { IsOk args → IfErr result (λ error. error ≡ NoMemory) }
     ensures utf8 { IfOk result (λ words. All IsUtf8 words.items) }
 {
     match args {
