@@ -5,6 +5,7 @@
 //! a call ends that writes what it made.
 //! The code that makes it is left to five crates beside each other: `redl_commands_write`, `redl_commands_resume`, `redl_commands_list`,
 //! `redl_commands_show` and `redl_commands_sample`.
+//! Its tests are whole calls, in the rows of `redl_rows`.
 #![tactic(auto)]
 
 mod collected;

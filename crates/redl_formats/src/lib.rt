@@ -4,6 +4,7 @@
 //! Both promise at each moment the text that `specs/Formats.antt` gives for the items so far. Columns, tabs, members of objects and
 //! dates are functions that add exactly their text.
 //! What the items are, and which formats there are by what names, is left to the crates above.
+//! Rows by hand are in `proofs/Rows.antt`. Its tests are whole calls, in the rows of `redl_rows`.
 #![tactic(auto)]
 
 mod array_format;

@@ -4,6 +4,7 @@
 //! `show` promises the fold `shows` of `specs/Shows.antt` over the nodes that the text is. It reads the text once, from its front,
 //! and takes no memory. What takes the text is a sink, or anything else that `specs/Takings.antt` or the walk's own crate says how
 //! it changes by a text. Which elements are idle, and what a walk shows of all others, is left to other crates.
+//! Its tests are whole calls, in the rows of `redl_rows`.
 #![tactic(auto)]
 
 mod walk;

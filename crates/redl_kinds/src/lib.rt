@@ -2,6 +2,7 @@
 //!
 //! Nothing here looks at a package. `redl_index` finds the revisions, `redl_select` says which of them a selection chooses and a
 //! lock holds, and `redl_words` reads both from the words of a command line.
+//! Rows by hand are in `proofs/Rows.antt`. Its tests are whole calls, in the rows of `redl_rows`.
 #![tactic(auto)]
 
 mod group;

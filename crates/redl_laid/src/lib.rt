@@ -2,6 +2,7 @@
 //!
 //! Begin with `Laid`: `Laid::of` takes the kept text, and `first` gives its first node and those after it. An element's kids are read
 //! the same way.
+//! Its tests are whole calls, in the rows of `redl_rows`.
 #![tactic(auto)]
 
 mod laid;

@@ -2,6 +2,7 @@
 //! lent, written and changed leaf by leaf.
 //! Read `take_story` first, which splits a story, then `set_story`, which sets says in it. What is kept is always the split of the
 //! original, with the pass of each leaf under the says (`specs/View.antt`). Which leaves a revision touches is left to the crate above.
+//! Its tests are those of the editor, in `redl_calls_tests`.
 #![tactic(auto)]
 
 mod cutting;

@@ -4,6 +4,7 @@
 //! Read `ordered`, and `specs/Order.antt`: the document, the headers, the footers, and the notes that the document names, each kind in
 //! the order of its references. Headers and footers that no reference names come behind the others, such notes aren't among them, and
 //! no comment is. What is shown of a story is left to the crates above.
+//! Rows by hand are in `proofs/Rows.antt`. Its tests are whole calls, in the rows of `redl_rows`.
 #![tactic(auto)]
 
 mod find;

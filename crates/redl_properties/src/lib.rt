@@ -4,6 +4,7 @@
 //! Read `changes_between` first. A property is known by its path, as `vanish` or `pBdr/top`, or by its path and an attribute, as
 //! `ind@left`. `PROPERTIES` has those that have a name; `property.rt`, `path.rt`, `name.rt` and `way.rt` are made by `tools/properties`.
 //! How leaves come from the nodes of a document is left to the crate above.
+//! Rows by hand are in `proofs/Rows.antt`. Its tests are whole calls, in the rows of `redl_rows`.
 #![tactic(auto)]
 
 mod amount;

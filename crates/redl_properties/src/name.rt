@@ -1,4 +1,5 @@
 //! The names of the properties. `tools/properties` makes this file from `examples/properties.tsv`.
+//! Its one function has an arm for each row of the table, and is as long as that.
 
 ghost use Rattle.std.specs.Prelude.{◌≡◌};
 ghost use Rattle.redl_properties.specs.Names.{name_of};

@@ -1,4 +1,5 @@
 //! How the values of the properties are said. `tools/properties` makes this file from `examples/properties.tsv`.
+//! Its one function has an arm for each row of the table, and is as long as that.
 
 ghost use Rattle.std.specs.Prelude.{◌≡◌};
 ghost use Rattle.redl_properties.specs.Names.{way_of};

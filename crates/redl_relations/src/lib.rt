@@ -3,6 +3,7 @@
 //!
 //! Read `part_by_type` first, and `specs/Relations.antt`. `document_part` is where a reader begins, and `xml_data` gives what a
 //! part holds. Which parts are asked for, and what is found in them, is left to the crates above.
+//! Rows by hand are in `proofs/Rows.antt`. Its tests are whole calls, in the rows of `redl_rows`.
 #![tactic(auto)]
 
 mod leads;

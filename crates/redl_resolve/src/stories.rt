@@ -96,7 +96,8 @@ pub fn into_passed_counted<'a, L: Ledger>(
     Ok(nodes)
 }
 
-// The same as `into_passed`, with a counter by this blank, which nobody reads.
+// The same as `into_passed`, with a counter by this blank, which nobody reads. It is a function of its own, since the name of a
+// counter is picked at a call.
 fn into_passed_by<'a, L: Ledger>(
     alloc: Global,
     nodes: Vec<Node<'a>>,

@@ -3,6 +3,7 @@
 //! the same of one revision.
 //! `holds` says whether a lock holds a revision, and `any_holds` whether one of several does.
 //! The texts of selections are read by the crate above; what is decided on the chosen revisions is left to it too.
+//! Rows by hand are in `proofs/LockRows.antt` and `proofs/Rows.antt`. Its tests are whole calls, in the rows of `redl_rows`.
 #![tactic(auto)]
 
 mod chosen;

@@ -2,6 +2,7 @@
 //!
 //! Read `put_shown`. Each reference is its character, CDATA shows what is in it, and comments and instructions show nothing.
 //! `next_shown` gives the same piece by piece. Which texts of a document are shown, and where, is left to the crates above.
+//! Rows by hand are in `proofs/Rows.antt`. Its tests are whole calls, in the rows of `redl_rows`.
 #![tactic(auto)]
 
 mod parts;

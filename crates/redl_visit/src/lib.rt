@@ -6,6 +6,7 @@
 //! The walk promises a fold over what code has at hand: `visited` of `specs/Visits.antt`, and for labels `relabelled` of
 //! `specs/Labelling.antt`.
 //! What a visitor looks for, and that its fold is what a definition says, is left to the crates above.
+//! Rows by hand are in `proofs/Rows.antt`. Its tests are whole calls, in the rows of `redl_rows`.
 #![tactic(auto)]
 
 mod ancestors;

@@ -1,3 +1,4 @@
+-- Where no say changes nothing is made, and where memory runs out the says are put back. It is long because the call returns in three ways.
 use Rattle.std.proofs.Common.{◌≡◌, List, [], length, map, sym, subst, ap, ◌∙◌, arith}
 use Rattle.std.proofs.lemmas.Bool.{eqb-true}
 use Rattle.std.proofs.lemmas.List.{nil_from_length}

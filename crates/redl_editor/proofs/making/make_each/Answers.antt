@@ -1,3 +1,4 @@
+-- One leaf more is made. It is long because steps are counted where memory runs out too.
 use Rattle.std.proofs.Common.{◌≡◌, ◌<◌, ◌+◌, ◌++◌, [], List, length, get_or, map, drop, subst, sym, ap, arith}
 use Rattle.redl_tree.specs.Leaves.States.{slots_of}
 use Rattle.redl_tree.specs.Leaves.Ways.{leaf_at}

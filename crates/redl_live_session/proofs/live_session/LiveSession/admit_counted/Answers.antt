@@ -1,3 +1,4 @@
+-- What the editor counts for an entry is its cost, and a refusal leaves the session as it is. It is long because each way to return has an answer for the session's invariant.
 use Rattle.std.proofs.Common.{◌≡◌, ◌≤◌, ◌+◌, List, sym, ap, subst, ◌∙◌, arith}
 use Rattle.redl_editor.specs.Documents.{Document}
 use Rattle.redl_journal.specs.declared.entry.Entry.{Entry}
