@@ -5,12 +5,16 @@ socket of its Marionette, so that nothing but the browsers themselves is needed.
 """
 import base64
 import glob
+import os
 import re
 import shutil
+import signal
+import subprocess
 import tempfile
 
 ELEMENT = "element-6066-11e4-a52e-4f735466cecf"
-SECONDS = 240
+# How long a browser may take to start, for a command, and to end.
+SECONDS_TO_START, SECONDS, SECONDS_TO_END = 90, 240, 20
 
 
 def below(process):
@@ -26,6 +30,21 @@ def below(process):
     for it in found:
         found += begun.get(it, [])
     return found
+
+
+def end(process):
+    """Ends a process and all that were begun by it, whether they answer or not."""
+    for number in below(process)[1:]:
+        try:
+            os.kill(number, signal.SIGKILL)
+        except ProcessLookupError:
+            pass
+    process.terminate()
+    try:
+        process.wait(SECONDS_TO_END)
+    except subprocess.TimeoutExpired:
+        process.kill()
+        process.wait()
 
 
 def held_by(number):
@@ -46,13 +65,24 @@ class Browser:
 
     def __init__(self):
         self.folder = tempfile.mkdtemp(prefix="page-")
-        self.start()
-        self.send("SetTimeouts", script=1000 * SECONDS, pageLoad=1000 * SECONDS)
-        self.look(1280, 800)
+        self.begun = []
+        try:
+            self.start()
+            self.send("SetTimeouts", script=1000 * SECONDS, pageLoad=1000 * SECONDS)
+            self.look(1280, 800)
+        except BaseException:
+            self.end()
+            raise
 
     def start(self):
         """Starts the browser and a session in it."""
         raise NotImplementedError
+
+    def begin(self, *command, **how):
+        """Begins a process that ends with the browser."""
+        process = subprocess.Popen(command, stderr=subprocess.DEVNULL, text=True, **how)
+        self.begun.append(process)
+        return process
 
     def send(self, command, **words):
         """What a command of WebDriver answers."""
@@ -135,8 +165,19 @@ class Browser:
         raise NotImplementedError
 
     def close(self):
-        self.stop()
-        shutil.rmtree(self.folder, ignore_errors=True)
+        """Ends the browser; one that doesn't end when it is told to is ended all the same."""
+        try:
+            self.stop()
+        except (RuntimeError, OSError):
+            pass
+        self.end()
 
     def stop(self):
+        """Tells the browser to end."""
         raise NotImplementedError
+
+    def end(self):
+        """Ends all that was begun for this browser, and removes its folder."""
+        for process in reversed(self.begun):
+            end(process)
+        shutil.rmtree(self.folder, ignore_errors=True)

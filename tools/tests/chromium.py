@@ -6,7 +6,7 @@ import subprocess
 import urllib.error
 import urllib.request
 
-from browser import Browser, SECONDS
+from browser import Browser, SECONDS, SECONDS_TO_END, SECONDS_TO_START
 
 # Where the driver takes each command. What is in braces is one of the command's words.
 PATHS = {
@@ -28,7 +28,6 @@ PATHS = {
     "SwitchToFrame": "POST /frame",
     "TakeScreenshot": "GET /screenshot",
     "SetWindowRect": "POST /window/rect",
-    "DeleteSession": "DELETE ",
     "GetLog": "POST /se/log",
     "DoTool": "POST /goog/cdp/execute",
 }
@@ -43,27 +42,30 @@ class Chromium(Browser):
         return bool(shutil.which("chromium") and shutil.which("chromedriver"))
 
     def start(self):
-        command = ["chromedriver", "--port=0"]
-        self.process = subprocess.Popen(command, stdout=subprocess.PIPE, stderr=subprocess.DEVNULL, text=True)
-        for line in self.process.stdout:
-            port = re.search(r"started successfully on port (\d+)", line)
-            if port:
-                break
-        self.base = "http://127.0.0.1:" + port.group(1)
+        self.process = self.begin("chromedriver", "--port=0", stdout=subprocess.PIPE)
+        self.base = "http://127.0.0.1:" + self.port()
         options = {
             "binary": shutil.which("chromium"),
             "args": ARGUMENTS + ["--user-data-dir=" + self.folder + "/profile"],
             "prefs": {"download.default_directory": self.folder, "download.prompt_for_download": False},
         }
         wanted = {"browserName": "chrome", "goog:chromeOptions": options, "goog:loggingPrefs": {"browser": "ALL"}}
-        made = self.ask("POST", self.base + "/session", {"capabilities": {"alwaysMatch": wanted}})
+        made = self.ask("POST", self.base + "/session", {"capabilities": {"alwaysMatch": wanted}}, SECONDS_TO_START)
         self.base += "/session/" + made["sessionId"]
 
-    def ask(self, method, address, words):
+    def port(self):
+        """The port that the driver tells once it listens."""
+        for line in self.process.stdout:
+            found = re.search(r"started successfully on port (\d+)", line)
+            if found:
+                return found.group(1)
+        raise RuntimeError("chromedriver doesn't start")
+
+    def ask(self, method, address, words, seconds=SECONDS):
         data = json.dumps(words).encode() if method == "POST" else None
         request = urllib.request.Request(address, data, {"Content-Type": "application/json"}, method=method)
         try:
-            with urllib.request.urlopen(request, timeout=SECONDS) as answer:
+            with urllib.request.urlopen(request, timeout=seconds) as answer:
                 return json.load(answer)["value"]
         except urllib.error.HTTPError as error:
             raise RuntimeError("%s: %s" % (address[len(self.base) :], json.load(error)["value"]["message"])) from None
@@ -85,8 +87,4 @@ class Chromium(Browser):
         return [it["message"] for it in self.send("GetLog", type="browser")]
 
     def stop(self):
-        try:
-            self.send("DeleteSession")
-        finally:
-            self.process.terminate()
-            self.process.wait()
+        self.ask("DELETE", self.base, {}, SECONDS_TO_END)

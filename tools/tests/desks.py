@@ -16,10 +16,10 @@ import desk_large
 import desk_limits
 import desk_looks
 import desk_round
+from cases import run, run_all
 from chromium import Chromium
 from desk_seen import built
 from firefox import Firefox
-from page_seen import told
 from webkit import WebKit
 
 BROWSERS = [Chromium, Firefox, WebKit]
@@ -27,31 +27,12 @@ CASES = desk_round.CASES + desk_faults.CASES + desk_hostile.CASES + desk_limits.
 IN_EACH = [desk_round.package_round, desk_round.docx_round, desk_round.second_sitting]
 
 
-def run(case, kind):
-    """A case in a browser of its own."""
-    driven = kind()
-    try:
-        case(driven)
-    except (RuntimeError, OSError) as error:
-        told(case.__name__, False, str(error).split("\n")[0])
-    finally:
-        driven.close()
-
-
 def main(words):
     if not built():
         return print("skipped the desk: it hasn't been built")
     if words[:1] == ["--picture"]:
         return run(lambda driven: desk_looks.pictured(driven, words[1]), Chromium)
-    named = [case for case in CASES + desk_large.MEASURES if case.__name__ in words]
-    for kind in [kind for kind in BROWSERS if kind.name in words] or BROWSERS:
-        cases = named or (CASES if kind is Chromium or words else IN_EACH)
-        if not kind.is_there():
-            print("skipped the desk in %s: it isn't there" % kind.name)
-            continue
-        told.browser = kind.name + ": "
-        for case in cases:
-            run(case, kind)
+    run_all(BROWSERS, words, "the desk", CASES, IN_EACH, desk_large.MEASURES)
 
 
 main(sys.argv[1:])

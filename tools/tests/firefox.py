@@ -6,7 +6,7 @@ import socket
 import subprocess
 import time
 
-from browser import Browser, SECONDS
+from browser import Browser, SECONDS, SECONDS_TO_END, SECONDS_TO_START
 
 PREFERENCES = {
     "marionette.port": 0,
@@ -47,17 +47,17 @@ class Firefox(Browser):
         with open(profile + "/user.js", "w") as file:
             for name, value in {**PREFERENCES, "browser.download.dir": self.folder}.items():
                 file.write("user_pref(%s, %s);\n" % (json.dumps(name), json.dumps(value)))
-        command = ["firefox-esr", "--headless", "--marionette", "--remote-allow-system-access", "--no-remote", "--profile", profile]
-        environment = {**os.environ, "HOME": self.folder}
-        self.process = subprocess.Popen(command, stdout=subprocess.DEVNULL, stderr=subprocess.DEVNULL, env=environment)
-        self.socket = socket.create_connection(("127.0.0.1", self.port(profile)), SECONDS)
+        words = ["--headless", "--marionette", "--remote-allow-system-access", "--no-remote", "--profile", profile]
+        self.process = self.begin("firefox-esr", *words, stdout=subprocess.DEVNULL, env={**os.environ, "HOME": self.folder})
+        self.socket = socket.create_connection(("127.0.0.1", self.port(profile)), SECONDS_TO_START)
         self.bytes, self.number = b"", 0
         self.receive()
         self.send("NewSession", capabilities={"alwaysMatch": {"acceptInsecureCerts": True}})
+        self.socket.settimeout(SECONDS)
 
     def port(self, profile):
         """The port that the browser writes down once it listens."""
-        end = time.time() + 60
+        end = time.time() + SECONDS_TO_START
         while time.time() < end:
             try:
                 with open(profile + "/MarionetteActivePort") as file:
@@ -112,9 +112,6 @@ class Firefox(Browser):
         return self.run_around(CONSOLE)
 
     def stop(self):
-        try:
+        self.socket.settimeout(SECONDS_TO_END)
+        with self.socket:
             self.send("Marionette:Quit", flags=["eForceQuit"])
-        except (RuntimeError, OSError):
-            self.process.terminate()
-        self.socket.close()
-        self.process.wait()

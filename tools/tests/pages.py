@@ -19,6 +19,7 @@ import page_sizes
 import page_store
 import page_views
 import page_work
+from cases import run, run_all
 from chromium import Chromium
 from firefox import Firefox
 from page_seen import IS_OWN, LOCK, REVIEWERS, page_of, second_page, told
@@ -41,31 +42,12 @@ def same_pages():
         told("the page of " + said, page_of(name, journals, locks, *given) == second_page(name, journals, locks, *given), "other bytes")
 
 
-def run(case, kind):
-    """A case in a browser of its own."""
-    driven = kind()
-    try:
-        case(driven)
-    except (RuntimeError, OSError) as error:
-        told(case.__name__, False, str(error).split("\n")[0])
-    finally:
-        driven.close()
-
-
 def main(words):
     if words[:1] == ["--picture"]:
         return run(lambda driven: page_looks.pictured(driven, words[1]), Chromium)
     if IS_OWN:
         same_pages()
-    named = [case for case in CASES + page_large.MEASURES if case.__name__ in words]
-    for kind in [kind for kind in BROWSERS if kind.name in words] or BROWSERS:
-        cases = named or (CASES if kind is Chromium or words else IN_EACH)
-        if not kind.is_there():
-            print("skipped pages in %s: it isn't there" % kind.name)
-            continue
-        told.browser = kind.name + ": "
-        for case in cases:
-            run(case, kind)
+    run_all(BROWSERS, words, "pages", CASES, IN_EACH, page_large.MEASURES)
 
 
 main(sys.argv[1:])

@@ -8,6 +8,7 @@ import time
 import urllib.error
 import urllib.request
 
+from browser import SECONDS_TO_START
 from chromium import Chromium
 
 BINARIES = "/usr/lib/*/webkit2gtk-4.*/MiniBrowser"
@@ -25,17 +26,16 @@ class WebKit(Chromium):
         os.makedirs(self.folder + "/.config")
         with open(self.folder + "/.config/user-dirs.dirs", "w") as file:
             file.write('XDG_DOWNLOAD_DIR="%s"\n' % self.folder)
-        self.screen = subprocess.Popen(["Xvfb", "-displayfd", "1", "-screen", "0", "1400x1000x24"], stdout=subprocess.PIPE, stderr=subprocess.DEVNULL, text=True)
-        environment["DISPLAY"] = ":" + self.screen.stdout.readline().strip()
+        screen = self.begin("Xvfb", "-displayfd", "1", "-screen", "0", "1400x1000x24", stdout=subprocess.PIPE)
+        environment["DISPLAY"] = ":" + screen.stdout.readline().strip()
         with socket.socket() as free:
             free.bind(("127.0.0.1", 0))
             port = free.getsockname()[1]
-        command = ["WebKitWebDriver", "--port=%d" % port]
-        self.process = subprocess.Popen(command, stdout=subprocess.DEVNULL, stderr=subprocess.DEVNULL, env=environment)
+        self.process = self.begin("WebKitWebDriver", "--port=%d" % port, stdout=subprocess.DEVNULL, env=environment)
         self.base = "http://127.0.0.1:%d" % port
         self.wait_for(self.base + "/status")
         options = {"binary": sorted(glob.glob(BINARIES))[-1], "args": ["--automation"]}
-        made = self.ask("POST", self.base + "/session", {"capabilities": {"alwaysMatch": {"webkitgtk:browserOptions": options}}})
+        made = self.ask("POST", self.base + "/session", {"capabilities": {"alwaysMatch": {"webkitgtk:browserOptions": options}}}, SECONDS_TO_START)
         self.base += "/session/" + made["sessionId"]
 
     def wait_for(self, address):
@@ -55,10 +55,3 @@ class WebKit(Chromium):
     def complaints(self):
         # (this driver tells nothing of the console)
         return []
-
-    def stop(self):
-        try:
-            super().stop()
-        finally:
-            self.screen.terminate()
-            self.screen.wait()
