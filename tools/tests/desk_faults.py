@@ -95,6 +95,8 @@ def documents(driven):
         said = it.drop((name, content))
         told("%s is refused, with what and what to do" % name, it.is_fault() and what in said and len(said) > len(what) + 10, said)
     same("the document on the screen stays", [it.text("#name"), it.decisions()], ["contract.docx", ["3 accept"]])
+    it.drop(("plain.xml", example("plain.xml")), ("ann.journal", example("ann.journal")), answer="no")
+    same("it stays where another one is not to be opened, and no journal is added", [it.text("#name"), it.decisions(), it.text("#others-badge")], ["contract.docx", ["3 accept"], ""])
     said = it.drop(("a.docx", docx), ("b.docx", docx))
     told("one document at a time", it.is_fault() and "one document at a time" in said, said)
     said = it.drop(("office.docx", out_of_place(driven.folder)))

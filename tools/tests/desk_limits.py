@@ -111,6 +111,19 @@ def deep_documents(driven):
             told("%s 512 deep: %s, or it is told why not" % (name, step), not it.is_fault() or TOO_DEEP in it.message(), it.message())
 
 
+def nested_tables(driven):
+    """A hundred tables in one another are shown. More are told of, since browsers don't show them, and WebKit hangs."""
+    it = begun(driven)
+    table = "<w:tbl><w:tr><w:tc>", "<w:p/></w:tc></w:tr></w:tbl>"
+    nested = lambda count: (make.FRONT + make.around(table, make.TEXT, 3 * count) + make.BACK).encode()
+    said = it.drop(("nested.xml", nested(101)))
+    told("101 tables in one another are told of", it.is_fault() and TOO_DEEP in said and "command line" in said, said)
+    stays(it, "101 tables in one another")
+    it.drop(("nested.xml", nested(100)))
+    same("100 tables in one another open", it.text("#name"), "nested.xml")
+    same("and all are there", it.in_page("return page.document.querySelectorAll('main table').length"), 100)
+
+
 def little_stack(driven):
     """A document whose depth overflows the stack: the call ends, it is told, and what was on the screen stays and can be saved."""
     it = begun(driven, limited(driven, with_stack, STACK))
@@ -122,26 +135,31 @@ def little_stack(driven):
     told("the next call goes well", it.saves("#save-document", "contract.decided.xml").startswith(b"<?xml"))
 
 
-# The program is called from so deep in other calls that the engine's own stack ends in the middle of it.
+# The program is called from the end of the engine's own stack, and then from ever less deep, until that stack ends in the program.
 FROM_DEEP = """
 addEventListener("message", () => {
   if (self.isReplaced) return;
   self.isReplaced = true;
-  const before = callProgram, nested = (depth, then) => {
-    // (kept in a name, since WebKit makes no new frame for a call that is the last thing done)
-    const it = depth ? nested(depth - 1, then) : then();
-    return it;
-  };
-  const fits = (depth) => { try { nested(depth, () => 0); return true; } catch { return false; } };
+  const before = callProgram;
   callProgram = (program, words, files, put) => {
     if (!words.includes("settle")) return before(program, words, files, put);
-    let [least, most] = [0, 1 << 20];
-    while (most - least > 20) [least, most] = fits((least + most) >> 1) ? [(least + most) >> 1, most] : [least, (least + most) >> 1];
+    let ended = null;
+    const descend = () => {
+      try {
+        descend();
+      } catch (error) {
+        try {
+          if (!ended) ended = before(program, words, files, put);
+        } catch (fault) {
+          if (/wasm/i.test(fault.stack)) ended = fault;
+        }
+        throw error;
+      }
+    };
     try {
-      return nested(Math.floor(least * 0.95), () => before(program, words, files, put));
-    } catch (error) {
-      throw /wasm/i.test(error.stack) ? error : new Error("the stack ended before the program: " + error.stack);
-    }
+      descend();
+    } catch {}
+    throw ended instanceof Error ? ended : new Error("the stack did not end in the program");
   };
 });
 """
@@ -165,4 +183,4 @@ def stack_ends(driven):
     told("and the next call goes well", it.saves("#save-document", "tables.decided.xml").startswith(b"<"))
 
 
-CASES = [little_memory, little_stack, stack_ends, deep_documents]
+CASES = [little_memory, nested_tables, little_stack, stack_ends, deep_documents]

@@ -6,7 +6,7 @@ import time
 
 import desk_faults
 from desk_seen import DOCX, FLATOPC, REDLINE, Desk, built, example, for_package, output, read, unpacked
-from page_seen import EXAMPLES, in_package, same, told, wait
+from page_seen import EXAMPLES, in_numbered, in_package, same, told, wait
 
 NAMES = ["ann", "bob", "cara"]
 JOURNALS = ["contract.%s.journal" % name for name in NAMES]
@@ -17,6 +17,7 @@ def package_round(driven):
     it = Desk(driven)
     said = it.drop(*[(name, example(name)) for name in ["contract.xml", *JOURNALS]])
     told("a package and its journals open at once", "3 journals were added" in said, said)
+    told("and what to do is told", "press Accept or Reject" in said, said)
     same("what is disputed is told first", it.text("#standing-badge"), "4")
     it.step("save")
     same("the document as decided", it.saves("#save-document", "contract.decided.xml"), example("contract.written.xml"))
@@ -156,6 +157,22 @@ def formats(driven):
     same("where each change outside the document is", [row for row in places if row[1]], [[one["number"], one["place"]] for one in listed if one["place"] != "document"])
 
 
+def clauses(driven):
+    """In which clause each change is, by the numbers that the document counts."""
+    change = '<w:ins w:id="1" w:author="Ann" w:date="2026-11-03T14:30:00Z"><w:r><w:t>new</w:t></w:r></w:ins>'
+    properties = ['<w:pPr><w:numPr><w:ilvl w:val="%d"/><w:numId w:val="1"/></w:numPr></w:pPr>' % level for level in (0, 1, 1, 2, 0)]
+    body = "".join("<w:p>%s%s</w:p>" % (it, change) for it in ["", *properties])
+    whole = in_numbered(body)
+    it = Desk(driven)
+    it.drop(("numbered.xml", whole.encode()))
+    it.step("standing")
+    column = "const table = document.querySelector('#tables table'); return [...table.tHead.rows, ...table.tBodies[0].rows].map((row) => row.cells[1].textContent)"
+    same("the clause of each change", it.run(column), ["Clause", "", "1.", "1.1", "1.2", "(a)", "2."])
+    it.drop(("plain.xml", example("plain.xml")))
+    it.step("standing")
+    same("and no column where no clause has a number", it.run(column)[0], "Change")
+
+
 def remains(driven):
     """What else is in the document is shown as it would be saved, before it is; and marks that nobody decides are told at once."""
     it = Desk(driven)
@@ -271,6 +288,61 @@ def locks_and_ranks(driven):
     it.step("standing")
     captions = it.run("return [...document.querySelectorAll('#tables caption')].map((it) => it.textContent.split(':')[0].split(',')[0])")
     told("decided against somebody is shown", "Decided against somebody" in captions, str(captions))
+    against = "const it = [...document.querySelectorAll('#tables table')].find((it) => /against/.test(it.caption.textContent));"
+    against += "return [...it.tBodies[0].rows].map((row) => [0, 4, 5].map((at) => row.cells[at].textContent))"
+    same("with those on either side", it.run(against), [[number, "Ann Gray", "Bob Hay, Pat Stone"] for number in ("32", "33")])
+
+
+# Each form of a lock, and the fields of the desk's form for it.
+LOCKS = [
+    ("--lock-span", {"lock-from": "2026-11-04", "lock-to": "2026-11-05"}, "made from 2026-11-04 and before 2026-11-05"),
+    ("--lock", {"lock-author": "Dana Fox & Co"}, "by “Dana Fox & Co”"),
+    ("--lock-kind", {"lock-kind": "del"}, "of the kind “deleted”"),
+]
+
+
+def each_lock(driven):
+    """Locks of each form at once, under a journal with ranks."""
+    it = Desk(driven)
+    it.drop(*[(name, example(name)) for name in ["contract.xml", "contract.ranked.journal"]])
+    it.step("others")
+    it.run("document.getElementById('locks').open = true")
+    it.after()
+    for form, fields, _ in LOCKS:
+        it.run("const it = document.getElementById('lock-by'); it.value = arguments[0]; it.dispatchEvent(new Event('change'))", form)
+        for name, value in fields.items():
+            it.run("document.getElementById(arguments[0]).value = arguments[1]", name, value)
+        it.press("#lock-form button")
+    same("each lock is in the list, in words", it.run("return [...document.querySelectorAll('#lock-list span')].map((it) => it.textContent)"), ["all changes " + words for _, _, words in LOCKS])
+    it.step("standing")
+    rows = [row for row in figures_of(it) if row[0] != "kind"]
+    report = [line.split(None, 5) for line in example("contract.locks.report").decode().splitlines()]
+    same("who has decided how much under them", rows, [[role, name, accept, reject, disputed, left] for role, accept, reject, disputed, left, name in report])
+    it.step("save")
+    same("written under them", it.saves("#save-document", "contract.decided.xml"), example("contract.locks.xml"))
+    told("what went with what was around it is told", "The locked changes 15, 17, 19 went" in it.text("#save-document-told"), it.text("#save-document-told"))
+
+
+def figures_of(it):
+    """The lines of the tables of reviewers and authors: what a line is of, the name, and four figures."""
+    lines = "return [...document.querySelectorAll('#tables tr:is(.reviewer, .author, .kind)')].map((row) => [row.className, ...[...row.cells].map((it) => it.textContent)])"
+    return it.run(lines)
+
+
+def figures(driven):
+    """The tables have the figures of the example's report, and each change is in the table of its verdict."""
+    it = Desk(driven)
+    it.drop(*[(name, example(name)) for name in ["contract.xml", *JOURNALS]])
+    it.step("standing")
+    wanted = [[one["role"], *[str(one[word]) for word in ("accept", "reject", "disputed", "open")]] for one in json.loads(example("contract.kinds.json"))]
+    same("the figures of reviewers, authors and kinds", [[role, *numbers] for role, _, *numbers in figures_of(it)], wanted)
+    it.run("document.querySelector('#tables details').open = true")
+    it.wait("document.querySelector('#tables details table')")
+    tables = it.run("return [...document.querySelectorAll('#tables table')].map((it) => [it.caption.textContent.split(':')[0], [...it.tBodies[0].rows].map((row) => row.cells[0].textContent)])")
+    listed = json.loads(example("contract.list.full"))
+    of = lambda *verdicts: [str(row["number"]) for row in listed if row["verdict"] in verdicts]
+    by_caption = dict(tables)
+    same("each change is in the table of its verdict", [by_caption.get(caption) for caption in ("Disputed", "Open", "Decided")], [of("disputed"), of("open"), of("accept", "reject")])
 
 
 def second_sitting(driven):
@@ -307,4 +379,4 @@ def sent_along(driven):
     same("which are those", [it.text("#name"), it.text("#count"), it.text("#others-badge")], ["contract.xml", "49 changes", "1"])
 
 
-CASES = [package_round, docx_round, example_at_hand, other_forms, formats, remains, locked_and_gone, unused_notes, kept_at_the_desk, locks_and_ranks, second_sitting] + [sent_along] * bool(REDLINE)
+CASES = [package_round, docx_round, example_at_hand, other_forms, formats, clauses, remains, locked_and_gone, unused_notes, kept_at_the_desk, locks_and_ranks, each_lock, figures, second_sitting] + [sent_along] * bool(REDLINE)

@@ -81,17 +81,17 @@ class Desk:
         self.driven.choose_file("#picker", "\n".join(files))
         return self.after()
 
-    def drop(self, *files, on="body"):
+    def drop(self, *files, on="body", answer="yes"):
         """Drops files, each a name and its bytes."""
         self.run(DROP, [[name, base64.b64encode(content).decode()] for name, content in files], on)
-        return self.after()
+        return self.after(answer)
 
-    def after(self):
-        """What is told once all has been done, where a question is agreed to."""
+    def after(self, answer="yes"):
+        """What is told once all has been done, where a question is answered so."""
         time.sleep(0.05)
         self.wait("document.body.getAttribute('aria-busy') !== 'true' || document.getElementById('question').open", 120)
         if self.run("return document.getElementById('question').open"):
-            self.driven.click("#question-yes")
+            self.driven.click("#question-" + answer)
             time.sleep(0.05)
             self.rest()
         return self.message()

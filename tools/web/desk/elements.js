@@ -98,6 +98,13 @@ function work(by) {
 }
 
 /**
+ * Tells what went wrong, with a file of this name; null stands for what is told already.
+ * @param {any} error
+ * @param {string} [name]
+ */
+const tellFault = (error, name) => error !== null && tell(messageOf(error, name));
+
+/**
  * An event's work, whose faults are told.
  * @template {any[]} Words
  * @param {(...words: Words) => Promise<void>} what
@@ -107,7 +114,7 @@ const guarded = (what) => async (/** @type {Words} */ ...words) => {
   try {
     await what(...words);
   } catch (error) {
-    tell(messageOf(error));
+    tellFault(error);
   } finally {
     work(-1);
   }

@@ -34,6 +34,37 @@ function printFrame(event) {
   seen.contentWindow.print();
 }
 
+/** How many tables in one another are shown: browsers keep 512 elements in one another, and Safari's hangs at tables beyond that. */
+const MOST_NESTED = 100;
+
+/**
+ * Whether a page has more tables in one another than browsers show.
+ * @param {string} html
+ */
+function isTooDeep(html) {
+  let [depth, begin, end] = [0, html.indexOf("<table"), html.indexOf("</table")];
+  while (begin >= 0) {
+    if (end < 0 || begin < end) {
+      if (++depth > MOST_NESTED) return true;
+      begin = html.indexOf("<table", begin + 1);
+    } else {
+      depth--;
+      end = html.indexOf("</table", end + 1);
+    }
+  }
+  return false;
+}
+
+/**
+ * A page that was made, where browsers can show it.
+ * @param {{ out: string, lines: string }} made
+ */
+function shown(made) {
+  if (isTooDeep(made.out))
+    throw new Told("This document has more tables in one another than this browser can follow.", "No browser shows more than " + MOST_NESTED + ". Take them out of one another in a copy, or use the command line.");
+  return made;
+}
+
 /** The program's page of the document, as a text, and the lines of the call. */
 const makePage = () => called(["page", DOCUMENT, ...signWords(), ...others.keys(), ...lockWords()]);
 

@@ -55,10 +55,11 @@ function refusedOne(line, journals) {
 }
 
 /**
- * Adds journals; what the program refuses stays out, with its line.
+ * Adds journals; what the program refuses stays out, with its line. `opening` is what was told of a document that came with them.
  * @param {{ name: string, bytes: Uint8Array }[]} files
+ * @param {Message | null} opening
  */
-async function addJournals(files) {
+async function addJournals(files, opening = null) {
   /** @type {Message[]} */
   const refused = [];
   /** @type {Journal[]} */
@@ -90,15 +91,15 @@ async function addJournals(files) {
     await showPage(await makePage());
     await refresh();
   }
-  tellAdded(added, refused, added.length ? toldOf(lines) : "");
+  tellAdded(added, refused, { todo: [added.length ? toldOf(lines) : "", opening?.todo].filter(Boolean).join(" "), line: opening?.line });
 }
 
 /**
  * @param {Journal[]} added
  * @param {Message[]} refused
- * @param {string} told
+ * @param {{ todo: string, line?: string }} more what else is told
  */
-function tellAdded(added, refused, told) {
+function tellAdded(added, refused, more) {
   const isFault = refused.some((it) => it.isFault);
   const [first] = refused;
   const disputed = Number(element("standing-badge").textContent || 0);
@@ -106,12 +107,12 @@ function tellAdded(added, refused, told) {
   const left = disputed && added.length ? counted(disputed, "change is", "changes are") + " disputed." : "";
   if (refused.length > 1) {
     const lines = refused.slice(0, 20).map((it) => it.what + " " + (it.line ?? "").split("\n")[0]);
-    const more = refused.length > 20 ? ["… and " + (refused.length - 20) + " more"] : [];
-    return tell({ what: [what, counted(refused.length, "file was", "files were") + " not added."].join(" ").trim(), todo: first.todo, line: [...lines, ...more].join("\n"), isFault });
+    const rest = refused.length > 20 ? ["… and " + (refused.length - 20) + " more"] : [];
+    return tell({ what: [what, counted(refused.length, "file was", "files were") + " not added."].join(" ").trim(), todo: first.todo, line: [...lines, ...rest].join("\n"), isFault });
   }
   const show = /** @type {[string, () => void]} */ (["Show what is disputed", () => choose("standing")]);
   tell({
-    what: [what, first?.what].filter(Boolean).join(" "), todo: [first?.todo, left, told].filter(Boolean).join(" "), line: first?.line,
+    what: [what, first?.what].filter(Boolean).join(" "), todo: [first?.todo, left, more.todo].filter(Boolean).join(" "), line: [first?.line, more.line].filter(Boolean).join("\n"),
     isFault, acts: left ? [show] : [],
   });
 }

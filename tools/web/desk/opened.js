@@ -105,7 +105,7 @@ function toldOf(lines) {
 async function openDocument({ name, bytes }, isTidy = false) {
   performance.mark("opening");
   const { isZip, line, lines, said } = await ask("open", bytes, { tidy: isTidy });
-  const page = await called(["page", DOCUMENT, "--title", name]).catch(goBack);
+  const page = await called(["page", DOCUMENT, "--title", name]).then(shown).catch(goBack);
   opened = { name, bytes, isZip, isTidy, count: countIn(line), note: toldOf(lines), said, isShown: false };
   others.clear();
   locks.length = rank = 0;
@@ -126,6 +126,7 @@ async function openDocument({ name, bytes }, isTidy = false) {
 /**
  * Gives the document and the journals of the screen to the worker again, since the new one can't be shown.
  * @param {any} error
+ * @returns {Promise<never>}
  */
 async function goBack(error) {
   if (opened) {

@@ -98,15 +98,16 @@ function whoSaid({ says }, word, className) {
 }
 
 /**
- * A table of changes with who said what.
+ * A table of changes with who said what, and with the clause of each where one of them has a number.
  * @param {string} caption
  * @param {any[]} rows
  */
 function changesTable(caption, rows) {
-  const heads = ["#No.", "Change", "Kind", "Author", "Accept", "Reject"];
+  const hasClauses = rows.some((row) => row.clause);
+  const heads = ["#No.", ...(hasClauses ? ["Clause"] : []), "Change", "Kind", "Author", "Accept", "Reject"];
   return table(caption, heads, rows.map((row) => [
     make("th", { className: "number", scope: "row" }, button(String(row.number), () => goTo(row.number), { "aria-label": "Show change " + row.number })),
-    wordsOf(row), KINDS[row.kind], make("bdi", { className: "who", textContent: row.author || "no name" }),
+    ...(hasClauses ? [make("bdi", { textContent: row.clause ?? "" })] : []), wordsOf(row), KINDS[row.kind], make("bdi", { className: "who", textContent: row.author || "no name" }),
     whoSaid(row, "accept", "yes"), whoSaid(row, "reject", "no"),
   ]));
 }

@@ -4,6 +4,7 @@
 /** @typedef {{ name: string, bytes: Uint8Array, isTidy?: boolean }} Given */
 
 const LARGEST_FILE = 2 ** 28;
+const HOW_TO_DECIDE = "Choose a change, and press Accept or Reject. When you are done, go to step 5.";
 
 /**
  * The files' names and bytes.
@@ -32,27 +33,30 @@ function isJournal({ name, bytes }) {
 }
 
 /**
- * Opens a document; one that only has changes of formatting out of place can be opened tidied.
+ * Opens a document; one that only has changes of formatting out of place can be opened tidied. Gives what it told.
  * @param {Given} file
+ * @returns {Promise<Message>}
  */
 async function openFile(file, isTidy = file.isTidy ?? false) {
-  if (opened && isUnsaved && !(await agreed("You have decided changes that are in no saved file yet. Open another document all the same?", "Open it"))) return;
+  if (opened && isUnsaved && !(await agreed("You have decided changes that are in no saved file yet. Open another document all the same?", "Open it"))) throw null;
   try {
     await openDocument(file, isTidy);
   } catch (error) {
     const message = messageOf(error, file.name);
     if (/package: rule 4\b/.test(String(error?.message)) && !isTidy && file.bytes[0] === 0x50)
-      message.acts = [["Put it in its place and open it", guarded(() => openFile(file, true))]];
+      message.acts = [["Put it in its place and open it", guarded(async () => void (await openFile(file, true)))]];
     tell(message);
     throw null;
   }
   const { count, note, said } = /** @type {Opened} */ (opened);
   choose("decide");
-  tell({
+  const message = {
     what: count ? "“" + file.name + "” is open: " + counted(count, "change") + " to decide." : "“" + file.name + "” has no tracked changes.",
-    todo: count ? ["Choose one, and press Accept or Reject. When you are done, go to step 5.", note].filter(Boolean).join(" ") : note || "If you expected some, Track Changes was off, or they were accepted before. There is nothing to decide here.",
+    todo: count ? [HOW_TO_DECIDE, note].filter(Boolean).join(" ") : note || "If you expected some, Track Changes was off, or they were accepted before. There is nothing to decide here.",
     line: said.join("\n"),
-  });
+  };
+  tell(message);
+  return message;
 }
 
 /**
@@ -64,16 +68,15 @@ async function take(files) {
   const documents = files.filter((it) => !journals.includes(it));
   if (documents.length > 1) throw new Told("Open one document at a time: these are " + documents.length + ".", "Choose the document of this round, and its journals with it.");
   if (!documents.length && !opened) throw new Told("Open the document first, and add the journals then.");
-  if (documents.length) await openFile(documents[0]);
-  if (journals.length) await addJournals(journals);
+  const told = documents.length ? await openFile(documents[0]) : null;
+  if (journals.length) await addJournals(journals, told);
 }
 
 const taken = async (/** @type {Given[]} */ files) => {
   try {
     await take(files);
   } catch (error) {
-    // (null: it is told already)
-    if (error !== null) tell(messageOf(error, files.length === 1 ? files[0].name : ""));
+    tellFault(error, files.length === 1 ? files[0].name : "");
   }
 };
 
