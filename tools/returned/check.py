@@ -1,7 +1,8 @@
 """Finds a reviewer's decisions in a document that came back, and has the program check them.
 
-What counts is the program's answer: `write` under the words that were found, and the document that came back without what it
-alone has, have to have the same bare text. Where they don't, the places are told, and there is no journal.
+What counts is the program's answer: the revisions are those that `list` tells, and `write` under the words that were found, and
+the document that came back without what it alone has, have to have the same bare text. Where they don't, the places are told,
+and there is no journal.
 """
 from returned import compare
 from returned.another import lost_places
@@ -10,7 +11,7 @@ from returned.counter import foreign_revisions, proposals
 from returned.differences import tell_clauses
 from returned.find import find, words_to_say
 from returned.pairs import pair_comments
-from returned.reader import read, read_both
+from returned.reader import Unreadable, read, read_both
 from returned.words import ACCEPT, EITHER, OPEN, REJECT, UNTOLD
 
 # Who the journals that no one sees are by.
@@ -38,7 +39,10 @@ class Answer:
 
 def answer_for(program, package, back):
     """The answer for two packages, each by its name for the program and its bytes."""
+    listing = program.begin_list(package[0])
     first, second = read_both(package[1], back[1])
+    if program.kinds(listing) != first.kinds:
+        raise Unreadable("the changes have other numbers in a listing")
     names = names_kept(first, second)
     if names != "all":
         first, second = read_both(package[1], back[1], True, names)

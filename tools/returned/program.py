@@ -64,10 +64,22 @@ class Program:
 
     def made(self, *words):
         """The output of a call that succeeds."""
-        status, output, lines = self.answer(*words)
+        return self.output_of(self.begin(*words))
+
+    def output_of(self, call):
+        """The output of a call that was begun, and succeeds."""
+        status, output, lines = self.end(call)
         if status not in (0, 1):
             raise CallFailed(status, lines)
         return output
+
+    def begin_list(self, package):
+        """A listing of a package that goes on beside what comes next, until `kinds` asks for it."""
+        return self.begin("list", package, "--format", "tab")
+
+    def kinds(self, listing):
+        """The kind of each revision that a listing has, in the order of their numbers."""
+        return [row.split("\t", 2)[1] for row in self.output_of(listing).decode("utf-8").split("\n")[:-1]]
 
     def decided(self, package, reviewer, journals, words):
         """A journal of a reviewer that goes on from some journals. `words` has a word for each number that gets one."""
