@@ -208,10 +208,40 @@ def stops(driven):
     same("with what it does", it.text("#doing"), "Writing the document…")
     it.press("#stop")
     told("it can be stopped", "Stopped" in it.text("#save-document-told"), it.text("#save-document-told"))
-    told("and nothing is shown of it any more", it.run("return document.getElementById('progress').hidden"))
+    told("and nothing is shown of it any more", it.wait("document.getElementById('progress').hidden"))
     same("the document and the decisions stay", [it.text("#name"), it.decisions(), it.text("#others-badge")], ["contract.xml", ["3 accept"], "1"])
     it.run("document.querySelector('input[name=how]').click()")
     told("and the next call goes well", it.saves("#save-document", "contract.decided.xml").startswith(b"<?xml"))
+
+
+# What a screen reader is told of long work, and how often what is seen of it changes.
+HEARD = """
+window.heardAll = [];
+window.seenChanges = 0;
+new MutationObserver(() => window.heardAll.push(document.getElementById("heard").textContent)).observe(document.getElementById("heard"), { childList: true });
+new MutationObserver(() => (window.seenChanges += 1)).observe(document.getElementById("doing"), { childList: true });
+"""
+# What is told in these elements stays silent: they, or what they are in, say that they aren't ready, or aren't there for a screen reader.
+SILENT = "return [...document.querySelectorAll('[role=status]')].filter((it) => it.closest('[aria-busy=true], [aria-hidden=true], [aria-live=off]')).map((it) => it.id)"
+
+
+def heard(driven):
+    """A screen reader is told what a long call does, once, and that it is at its end, and not of each megabyte."""
+    slow = "for (let at = Date.now(), end = at + 4000; at < end; ) if (Date.now() > at + 40) { at = Date.now(); tellPhase('read', 1e6); } return before(program, words, files, put);"
+    it = Desk(driven, altered(driven, REPLACED % ("settle", slow)))
+    it.drop(("contract.xml", example("contract.xml")))
+    it.step("save")
+    it.run(HEARD)
+    it.run("document.querySelector('input[name=how][value=accept]').click()")
+    it.run("document.querySelector('#save-document').click()")
+    told("a long call is told to a screen reader", it.wait("heardAll.length > 0", 10))
+    same("in an element that waits its turn", [role for role, _ in driven.spoken("#heard")], ["status"])
+    same("no such element is silent while work goes on", it.run(SILENT), [])
+    it.after()
+    all_heard, changes = it.run("return [window.heardAll, window.seenChanges]")
+    told("once, and then that it is at its end", len(all_heard) == 2 and all_heard[0].startswith("Writing the document…") and all_heard[1] == "Ready.", str(all_heard))
+    told("while what is seen of it goes on", changes > 10, str(changes))
+    told("what was saved is told too", it.text("#save-document-told").startswith("Saved as contract.accepted.xml."), it.text("#save-document-told"))
 
 
 def before_it_starts(driven):
@@ -224,4 +254,4 @@ def before_it_starts(driven):
     told("in a browser that can't run it, no file is opened", it.is_fault() and "can't run Redline" in said, said)
 
 
-CASES = [documents, journals, two_words, too_little, stops, before_it_starts]
+CASES = [documents, journals, two_words, too_little, stops, heard, before_it_starts]

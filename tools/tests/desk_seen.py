@@ -74,7 +74,7 @@ class Desk:
 
     def rest(self, seconds=120):
         """Waits until nothing goes on any more."""
-        return self.wait("document.body.getAttribute('aria-busy') !== 'true'", seconds)
+        return self.wait("document.body.dataset.working !== 'true'", seconds)
 
     def give(self, *files):
         """Chooses files, as in the window of the system for that."""
@@ -89,7 +89,7 @@ class Desk:
     def after(self, answer="yes"):
         """What is told once all has been done, where a question is answered so."""
         time.sleep(0.05)
-        self.wait("document.body.getAttribute('aria-busy') !== 'true' || document.getElementById('question').open", 120)
+        self.wait("document.body.dataset.working !== 'true' || document.getElementById('question').open", 120)
         if self.run("return document.getElementById('question').open"):
             self.driven.click("#question-" + answer)
             time.sleep(0.05)

@@ -35,7 +35,32 @@ function showProgress() {
   if (!state) return;
   const name = state.action === "call" ? state.words[0][0] : state.action;
   const size = state.written || state.read;
-  element("doing").textContent = (DOING[name] ?? "Working") + "…" + (size > 1e6 ? " " + Math.round(size / 1e6) + " MB" : "");
+  const [what, far] = [DOING[name] ?? "Working", size > 1e6 ? " " + Math.round(size / 1e6) + " MB" : ""];
+  element("doing").textContent = what + "…" + far;
+  say(what, far);
+}
+
+/** How many milliseconds a screen reader isn't told again how far the same work is. */
+const HEARD_EVERY = 10000;
+/** What a screen reader was last told of long work, and when. */
+const heard = { what: "", at: 0 };
+
+/**
+ * Tells a screen reader what long work is done, and now and then how far it is.
+ * @param {string} what
+ * @param {string} far
+ */
+function say(what, far) {
+  const now = performance.now();
+  if (what === heard.what && now - heard.at < HEARD_EVERY) return;
+  Object.assign(heard, { what, at: now });
+  element("heard").textContent = what + "…" + far;
+}
+
+/** Tells a screen reader that the work is at its end, where it was told of it. */
+function sayEnd() {
+  if (heard.what) element("heard").textContent = "Ready.";
+  heard.what = "";
 }
 
 /** @param {any} state what program.js tells of an action */

@@ -89,12 +89,14 @@ function agreed(text, yes) {
 let working = 0;
 
 /**
- * Says that work begins, or that it ends: who can't see the page, and who tests it, is told so.
+ * Says that work begins, or that it ends, to whoever tests the page. (What is busy by ARIA keeps a screen reader silent, also on what is
+ * told in it.)
  * @param {1 | -1} by
  */
 function work(by) {
   working += by;
-  document.body.setAttribute("aria-busy", String(working > 0));
+  document.body.dataset.working = String(working > 0);
+  if (!working) sayEnd();
 }
 
 /**
