@@ -11,6 +11,7 @@ import shutil
 import signal
 import subprocess
 import tempfile
+import unicodedata
 
 ELEMENT = "element-6066-11e4-a52e-4f735466cecf"
 # How long a browser may take to start, for a command, and to end.
@@ -146,6 +147,11 @@ class Browser:
     def picture(self, name):
         with open(name, "wb") as file:
             file.write(base64.b64decode(self.send("TakeScreenshot")))
+
+    def printed(self):
+        """The sheets that the browser prints of this tab, each as the text of a PDF of it."""
+        made = subprocess.run(["pdftotext", "-layout", "-", "-"], input=base64.b64decode(self.send("Print")), capture_output=True, check=True)
+        return unicodedata.normalize("NFKC", made.stdout.decode()).rstrip("\f").split("\f")
 
     def look(self, width, height, scheme="light", media="", zoom=1):
         """The size of what is seen, the system's colours, whether it is printed, and how far it is enlarged."""

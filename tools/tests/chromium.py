@@ -27,6 +27,7 @@ PATHS = {
     "SwitchToWindow": "POST /window",
     "SwitchToFrame": "POST /frame",
     "TakeScreenshot": "GET /screenshot",
+    "Print": "POST /print",
     "SetWindowRect": "POST /window/rect",
     "GetLog": "POST /se/log",
     "DoTool": "POST /goog/cdp/execute",

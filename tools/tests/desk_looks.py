@@ -1,5 +1,7 @@
 """How the desk looks and is heard: contrast, size, keyboard, screen reader, print; and its picture for README."""
 import os
+import re
+import shutil
 import time
 
 import pictures
@@ -160,15 +162,29 @@ def for_readers(driven):
 
 
 def printed(driven):
-    if driven.name == "webkit":
-        # (its driver has no paper)
-        return
-    it = contract(driven)
+    """The document that is seen is printed whole, with its view; so is the written one, and so are the tables, and no bar is."""
+    if driven.name == "webkit" or not shutil.which("pdftotext"):
+        # (the driver of WebKit has no paper)
+        return print("skipped %sprints: there is no driver for it, or no pdftotext" % told.browser)
+    it = Desk(driven)
+    it.drop(("contract.xml", example("contract.xml")))
+    it.decide(20, "reject")
+    for view, has, has_not in [("marks", ["3.00 EUR", "2.80 EUR"], []), ("final", ["2.80 EUR"], ["3.00 EUR"]), ("original", ["3.00 EUR"], ["2.80 EUR"])]:
+        it.in_page("page.document.querySelector('input[value=' + words[0] + ']').click(); page.focus()", view)
+        sheets = driven.printed()
+        text = " ".join(" ".join(sheets).split())
+        told("what is printed of the page says its view: " + view, 'contract.xml: view "%s" as decided on this page, 1 of 49 decided' % view in text, text[:300])
+        told("and is this view", all(words in text for words in has) and not any(words in text for words in has_not), text[:600])
+        told("to its end, on more than a sheet", len(sheets) > 1 and "Footnote" in text, "%d sheets, with the end: %s" % (len(sheets), text[-300:]))
+        told("without the bars", not any(words in text for words in ["Open another document", "Other reviewers", "Your name", "Save my journal"]), text[:600])
+    it.step("written")
+    text = " ".join(" ".join(driven.printed()).split())
+    told("what is printed of the written document says so", "contract.xml as it would be written now: " in text and "still tracked in it. Printed on 20" in text, text[:300])
     it.step("standing")
-    driven.look(1280, 800, "light", "print")
-    shown = lambda selector: it.run("return document.querySelector(arguments[0]).getClientRects().length > 0", selector)
-    told("the tables are printed without the bars", shown("#tables table") and not shown("header") and not shown("#tabs"))
-    driven.look(1280, 800)
+    text = " ".join(" ".join(driven.printed()).split())
+    told("the tables are printed with the numbers of the changes", re.search(r"No\. Change .* 1 Supply agreement .* 49 ", text), text[:600])
+    told("without the bars and the document", not any(words in text for words in ["Other reviewers", "Press the number", "Printed on"]), text[:600])
+    same("nothing of the paper is left on the screen", it.run("return document.getElementById('paper')"), None)
 
 
 def pictured(driven, file):

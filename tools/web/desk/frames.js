@@ -20,18 +20,6 @@ async function load(into, html) {
   into.srcdoc = policy.createHTML(html);
   await isThere;
   acceptDrops(into.contentWindow);
-  into.contentWindow.addEventListener("keydown", printFrame, true);
-}
-
-/**
- * Ctrl+P prints the document that is seen, by the rules for paper of its own page.
- * @param {KeyboardEvent} event
- */
-function printFrame(event) {
-  const seen = isChosen("decide") ? frame : isChosen("written") ? result : null;
-  if (!opened || !seen || event.key !== "p" || !(event.ctrlKey || event.metaKey)) return;
-  event.preventDefault();
-  seen.contentWindow.print();
 }
 
 /** How many tables in one another are shown: browsers keep 512 elements in one another, and Safari's hangs at tables beyond that. */
@@ -99,7 +87,7 @@ function saveFromPage(event) {
   event.preventDefault();
   save(event.detail.name, event.detail.text);
   isUnsaved = false;
-  tell({ what: "Saved as " + fileName(event.detail.name) + ".", todo: IN_DOWNLOADS + " Send it to whoever puts the round together." });
+  tell({ what: "Saved as " + fileName(event.detail.name) + ".", todo: IN_DOWNLOADS + " Send it to whoever puts the round together. The document itself is saved in step 5." });
 }
 
 /** What has to be made anew before it is seen. */
@@ -120,10 +108,13 @@ function dress(inner, rules) {
 const SMALL = "@media (max-width: 40rem), (max-height: 20rem) { h1, legend { position: absolute; width: 1px; height: 1px; overflow: hidden; clip-path: inset(50%) } }";
 
 /**
- * Takes away what can be decided in the page of the written document, since it is there to be read.
+ * Takes away what can be decided in the page of the written document, since it is there to be read, and has it say so on paper.
  * @param {any} inner
+ * @param {string} left how many changes are tracked in it
  */
-function freeze(inner) {
+function freeze(inner, left) {
+  inner.addEventListener("beforeprint", () => (inner.document.getElementById("printed").textContent =
+    opened?.name + " as it would be written now: " + left + " Printed on " + new Date().toISOString().slice(0, 10) + "."));
   dress(inner, "body > header, body > aside, dialog { display: none !important } body { grid: 'text' minmax(0, 1fr) / minmax(0, 1fr) !important } main [data-revision] { cursor: auto }");
   for (const kind of ["click", "keydown", "keyup", "beforeunload"])
     inner.addEventListener(kind, (/** @type {Event} */ event) => event.stopImmediatePropagation(), true);
@@ -138,11 +129,11 @@ async function showWritten() {
   const { out } = await called(["page", WRITTEN]);
   // (a name that no document has, so that nothing which the browser keeps for this one comes in)
   await load(result, out.replace(/ data-document="[0-9a-f]*"/, ' data-document="as written"'));
-  freeze(result.contentWindow);
-  const left = countIn(check.out);
+  const count = countIn(check.out);
+  const left = count ? counted(count, "change is", "changes are") + " still tracked in it." : "no change is tracked in it any more.";
+  freeze(result.contentWindow, left);
   element("written-told").append(
-    make("span", {}, "This is the document that “Save the document” would write now: ",
-      make("b", { textContent: left ? counted(left, "change is", "changes are") + " still tracked in it." : "no change is tracked in it any more." }), lines ? " " + toldOf(lines) : ""),
-    button("Print", () => result.contentWindow.print()));
+    make("span", {}, "This is the document that “Save the document” would write now: ", make("b", { textContent: left }), lines ? " " + toldOf(lines) : ""),
+    button("Print", () => window.print()), button("Go on to Save", () => choose("save")));
   stale.written = false;
 }

@@ -72,6 +72,7 @@ async function showStanding() {
     ["Open: nobody has decided them, and they stay tracked", of((row) => row.verdict === "open")],
   ];
   const parts = groups.filter(([, some]) => some.length).map(([caption, some]) => changesTable(caption, some));
+  if (parts.length) parts.unshift(make("p", { className: "hint", textContent: "Press the number of a change to see it in the document and decide it there." }));
   if (!count.disputed && others.size) parts.unshift(make("p", { textContent: "Nothing is disputed." }));
   parts.push(...peopleTables(JSON.parse(out)));
   if (decided.length) {

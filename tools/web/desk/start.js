@@ -199,8 +199,6 @@ function ownDecisions() {
   }
 }
 
-addEventListener("keydown", printFrame);
-
 guarded(async () => {
   acceptDrops(window);
   prepareSteps();
@@ -209,6 +207,7 @@ guarded(async () => {
   prepareRemains();
   prepareSittings();
   prepareButtons();
+  preparePaper();
   element("version").textContent = (await started).replace("\n", ", ");
   document.body.dataset.state = "ready";
   performance.mark("ready");
