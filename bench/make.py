@@ -1,6 +1,7 @@
 """Makes the inputs of the programs in this folder, and of tools/tests/hostile.test.
 
     python3 make.py document BYTES FILE          paragraphs up to so many bytes
+    python3 make.py script NAME BYTES FILE       the same in Chinese, Cyrillic or German
     python3 make.py package BYTES FILE           a package of several parts, as a word processor saves one: a document with
                                                  references in its text and many attributes, styles, pictures
     python3 make.py changes BYTES FILE           paragraphs with a tracked mark and changes of properties, up to so many bytes
@@ -35,21 +36,30 @@ REVIEWERS = ["Ann Gray", "Bob Hay", "Cara Lee"]
 WORDS = ["accept", "accept", "reject", "accept", "withdraw"]
 
 
-def paragraph(i):
-    return PARAGRAPH % (SENTENCE, i, 2 * i, SENTENCE, 2 * i + 1, SENTENCE)
+# Sentences in scripts whose letters take one, two or three bytes, with the signs that such texts have.
+SCRIPTS = {
+    "chinese": "双方同意，货款应于交货之日起三十日内支付；逾期付款的，买方应按未付金额支付利息，并且",
+    "cyrillic": "Стороны согласны, что оплата производится в течение тридцати дней после поставки, и что",
+    "german": "Die Parteien sind sich einig, dass die Zahlung innerhalb von dreißig Tagen nach Übergabe fällig ist, und dass",
+}
 
 
-def document(size):
+def paragraph(i, sentence=SENTENCE):
+    return PARAGRAPH % (sentence, i, 2 * i, sentence, 2 * i + 1, sentence)
+
+
+def document(size, sentence=SENTENCE):
     """A document of at most so many bytes."""
     pieces = [FRONT]
     left = size - len(FRONT) - len(BACK)
     i = 0
     while True:
-        piece = paragraph(i)
-        if len(piece) > left:
+        piece = paragraph(i, sentence)
+        length = len(piece.encode())
+        if length > left:
             return "".join(pieces + [BACK])
         pieces.append(piece)
-        left -= len(piece)
+        left -= length
         i += 1
 
 
@@ -266,7 +276,7 @@ TEXTS = {
 
 
 def save(name, whole):
-    with open(name, "w", newline="\n") as file:
+    with open(name, "w", encoding="utf-8", newline="\n") as file:
         file.write(whole)
 
 
@@ -287,6 +297,7 @@ def main(form, value, *rest):
         return
     made = {
         "document": lambda: document(int(value)),
+        "script": lambda: document(int(rest[0]), SCRIPTS[value]),
         "package": lambda: package(int(value)),
         "changes": lambda: reviewed_package(int(value)),
         "nodes": lambda: nodes(int(value)),
@@ -294,7 +305,7 @@ def main(form, value, *rest):
         "deep": lambda: FRONT + DEEP[value]() + BACK,
         "text": lambda: TEXTS[value](),
     }[form]()
-    save(rest[0], made)
+    save(rest[1] if form == "script" else rest[0], made)
 
 
 if __name__ == "__main__":
