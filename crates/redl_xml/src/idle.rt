@@ -11,6 +11,7 @@ ghost use Rattle.redl_xml.specs.Scopes.{Scope};
 ghost use Rattle.redl_xml.specs.Inside.Passing.{HoldsOf, HoldsIn, IsPlainIn, IsIdleIn, IsPassed, IsIdleText, PassesPiece, ClosesLast, piece_count, piece_elements, is_run_open, put_name, names_view, rest_behind};
 
 use crate::closing::behind_end;
+use crate::letters::pass_bare;
 use crate::namespaces::{are_plain, element_space};
 use crate::spaces::Spaces;
 use redl_grammar::Section;
@@ -283,6 +284,17 @@ pub(crate) fn skip_idle<'a>(
             whole = last_whole(&tries.names, now, whole);
             continue;
         }
+        let depth = tries.names.len() + 1;
+        if let Some(rest) = pass_bare(scopes, &mut tries.names, now.rest)? {
+            now = Idle {
+                rest,
+                nodes: now.nodes + 1,
+                elems: now.elems + 1,
+                deepest: now.deepest.max(depth),
+            };
+            whole = last_whole(&tries.names, now, whole);
+            continue;
+        }
         tries.left = now.rest.len();
         let Some((piece, rest)) = some_piece(alloc, &mut tries.list, now.rest)? else {
             return Ok(Tried {
@@ -290,7 +302,6 @@ pub(crate) fn skip_idle<'a>(
                 next: None,
             });
         };
-        let depth = tries.names.len() + 1;
         if !pass_piece(scopes, &mut tries.names, &piece)? {
             return Ok(ended(&mut tries.list, whole, depth, piece, rest));
         }

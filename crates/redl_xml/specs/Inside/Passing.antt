@@ -5,6 +5,9 @@ use Rattle.redl_tree.specs.Model.Nodes.{Tag, Nodes, no_nodes, bytes, element, Cl
 use Rattle.redl_tree.specs.Model.Count.{count}
 use Rattle.redl_tree.specs.Model.Elements.{elements}
 use Rattle.redl_tree.specs.declared.kinds.Space.{Space}
+use Rattle.std.specs.Char.{is_ascii_alphabetic}
+use Rattle.redl_grammar.specs.declared.section.Section.TheVariants.{InElement}
+use Rattle.redl_grammar.specs.ScanPieces.{piece_at}
 use Rattle.redl_grammar.specs.Names.{Name, name_eq}
 use Rattle.redl_markup.specs.declared.name.Name as code
 use Rattle.redl_markup.specs.Views.{name_view}
@@ -89,6 +92,23 @@ names_view ns = map name_view (reverse ns)
 pub record PassesPiece (scope : Scope) (before after : List code.Name) (p : Piece) : Type 0 where
   pub taken : put_name p (names_view before) ≡ Some (names_view after)
   pub holds : HoldsIn (IsIdleIn scope) (is_run_open W (names_view before)) W p
+
+-- a tag without attributes: a start tag, or else one of an empty element
+abbrev pub bare_tag : Bool → Name → Piece
+bare_tag opens name = if opens then start_tag name [] else empty_tag name []
+
+-- the word is a letter of ASCII
+pub record IsLetter (word : List ℕ) : Type 0 where
+  pub letter : ℕ
+  pub is : is_ascii_alphabetic letter ≡ true
+  pub whole : word ≡ letter ∷ []
+
+-- the bytes begin with a tag without attributes that was passed over
+pub record PassesBare (scope : Scope) (before after : List code.Name) (bs rest : List ℕ) : Type 0 where
+  pub opens : Bool
+  pub name : Name
+  pub read : piece_at InElement bs ≡ Some (bare_tag opens name, rest)
+  pub passes : PassesPiece scope before after (bare_tag opens name)
 
 -- the bytes begin with the end tag of the innermost open element, without white space, and these are the names of the open elements
 -- before it and after it
