@@ -51,10 +51,28 @@ pub(crate) fn push_node<'a>(nodes: &mut Vec<Node<'a>>, node: Node<'a>) -> Result
     Ok(())
 }
 
-// Whether the bytes begin as those of an element do.
+// Whether the bytes begin as those of an element do that may be idle where no other one is open. Paragraphs, properties, insertions and
+// deletions never are, which is seen at once where the prefix is one letter. Nothing is promised where no try is made.
 #[inline(always)]
-fn begins_element(bytes: &[u8]) -> bool {
-    bytes.starts_with(b"<") && !bytes.starts_with(b"</")
+fn is_worth_a_try(bytes: &[u8]) -> bool {
+    match bytes {
+        [b'<', b'/', ..] => false,
+        [b'<', _, b':', b'p', b'>' | b' ' | b'P', ..] => false,
+        [b'<', _, b':', b'r', b'P', b'r', ..] => false,
+        [b'<', _, b':', b'i', b'n', b's', b' ', ..] => false,
+        [b'<', _, b':', b'd', b'e', b'l', ..] => false,
+        [b'<', ..] => true,
+        _ => false,
+    }
+}
+
+// Whether the innermost open element is a deletion. What is deleted holds deleted text, which is no idle element, so no try is worth it.
+#[inline(always)]
+fn is_in_deletion(open: &[OpenElement<'_>]) -> bool {
+    match open.last() {
+        Some(opened) => opened.start.local() == b"del".as_slice(),
+        None => false,
+    }
 }
 
 #[inline(always)]
@@ -180,7 +198,11 @@ impl<'a> Building<'a> {
         ensures none { IfOk result (λ tried. IsNone tried.idle → building_view self.new ≡ building_view self.old) }
         ensures next { IfOk result (λ tried. IfSome tried.next (λ x. piece_at InElement (rest_behind bytes.entry.now tried.idle) ≡ Some (piece_view x.0, x.1.now))) }
     {
-        if self.open.len() < UPPER_LEVELS || bytes.len() >= tries.left || !begins_element(bytes) {
+        if self.open.len() < UPPER_LEVELS
+            || bytes.len() >= tries.left
+            || !is_worth_a_try(bytes)
+            || is_in_deletion(&self.open)
+        {
             return Ok(Tried {
                 idle: None,
                 next: None,
