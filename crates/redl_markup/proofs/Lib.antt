@@ -12,3 +12,4 @@ pub mod Numbers
 pub mod Plain
 pub mod NearBlocks
 pub mod BareLaws
+pub mod Preserving

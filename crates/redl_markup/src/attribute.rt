@@ -101,6 +101,7 @@ fn value(bytes: &[u8]) -> Option<(&[u8], &[u8])>
     }
 }
 
+#[inline(always)]
 fn attribute_behind_gap(bytes: &[u8]) -> Option<(Attribute<'_>, &[u8])>
     ensures { Gives (λ x. (attribute_view x.0, x.1.now)) result (attribute_at bytes.now) }
 {

@@ -1,12 +1,13 @@
 //! Tags: start tags with their attributes, tags of empty elements, and end tags.
 
-ghost use Rattle.std.specs.Prelude.{◌≡◌, codes, map, IfOk};
+ghost use Rattle.std.specs.Prelude.{◌≡◌, codes, map, IfOk, IfSome};
 ghost use Rattle.redl_markup.specs.Attributes.{names_in};
 ghost use Rattle.redl_reading.specs.Lists.{before};
 ghost use Rattle.redl_markup.specs.Reading.{Finds};
 ghost use Rattle.redl_reading.specs.Steps.{Gives};
 ghost use Rattle.redl_grammar.specs.ScanTags.{ends_tag, attributes_at, tail_at, tag_at, end_tag_at};
 ghost use Rattle.redl_markup.specs.Views.{name_view};
+ghost use Rattle.redl_markup.specs.Inside.Preserving.{Preserves};
 ghost use Rattle.redl_markup.specs.PieceViews.{piece_view};
 ghost use Rattle.redl_grammar.specs.Pieces.{end_tag as an_end_tag};
 
@@ -52,6 +53,15 @@ fn attributes<'a>(
     }
 }
 
+// The bytes after the tail ` xml:space="preserve"`, which most texts have.
+#[inline(always)]
+fn after_preserve(bytes: &[u8]) -> Option<&[u8]>
+    ensures { IfSome result (λ end. Preserves bytes.now end.now) }
+{
+    let end = skip(bytes, b" xml:space=\"preserve\"")?;
+    if is_at_end(end) { Some(end) } else { None }
+}
+
 // The names of the attributes of a tail, and the bytes after the tail.
 #[tactic(auto, unfolding(redl_grammar::specs::ScanTags::tail_at))]
 #[inline(always)]
@@ -68,6 +78,15 @@ fn tail<'a>(
         let mut names = list;
         names.clear();
         return Ok((names, bytes));
+    }
+    if let Some(end) = after_preserve(bytes) {
+        let mut names = list;
+        names.clear();
+        names.push(Name {
+            prefix: b"xml",
+            local: b"space",
+        })?;
+        return Ok((names, end));
     }
     let (names, rest) = attributes(list, bytes)?;
     if no_two_alike(alloc, &names)? {
