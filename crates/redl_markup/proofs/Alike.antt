@@ -14,7 +14,7 @@ use lib.Pointwise.{pointwise}
 use Rattle.redl_markup.specs.contracts.name.NameOrd.TheImpl as order
 use Rattle.redl_markup.specs.contracts.name.NameOrd.TheImpl.Laws as laws
 use Rattle.redl_markup.specs.declared.name.Name as code
-use Rattle.redl_grammar.specs.Names.{name_eq, are_distinct}
+use Rattle.redl_grammar.specs.Names.{Name, name_eq, are_distinct}
 use Rattle.redl_markup.specs.Views.{name_view}
 
 abbrev pub compare : code.Name → code.Name → Ordering
@@ -51,6 +51,9 @@ unlike_from_test x [] h = tt
 unlike_from_test x (y ∷ ys) h =
     let both = and_parts (not (name_eq (name_view x) (name_view y))) (list_all (λ m. not (name_eq (name_view x) m)) (map name_view ys)) h in
     (alike x y ∙ not-true (name_eq (name_view x) (name_view y)) both.0, unlike_from_test x ys both.1)
+
+pub unlike_step : (n : Name) (x : code.Name) (rest left : List code.Name) (t : Bool) → left ≡ x ∷ rest → name_eq n (name_view x) ≡ t → list_all (λ m. not (name_eq n m)) (map name_view left) ≡ (not t && list_all (λ m. not (name_eq n m)) (map name_view rest))
+unlike_step n x rest left t e h = rw (e, h) refl
 
 pub distinct_step : (x : code.Name) (rest left : List code.Name) (t : Bool) → left ≡ x ∷ rest → list_all (λ m. not (name_eq (name_view x) m)) (map name_view rest) ≡ t → are_distinct (map name_view left) ≡ (t && are_distinct (map name_view rest))
 unfolding are_distinct

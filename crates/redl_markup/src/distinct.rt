@@ -13,6 +13,7 @@ use std::collections::BTreeSet;
 const FEW: usize = 8;
 
 // Whether two names are written alike. Names of one tag mostly differ in the local parts.
+#[inline(always)]
 fn are_alike(a: Name<'_>, b: Name<'_>) -> bool
     ensures { result ≡ name_eq (name_view a.entry) (name_view b.entry) }
 {
@@ -24,7 +25,13 @@ fn are_alike(a: Name<'_>, b: Name<'_>) -> bool
 fn is_unlike<'a>(name: Name<'a>, others: &[Name<'a>]) -> bool
     ensures { result ≡ list_all (λ m. not (name_eq (name_view name.entry) m)) (map name_view others.now) }
 {
-    others.iter().all(|other| !are_alike(name, *other))
+    let mut left = others.iter();
+    while let Some(other) = left.next() {
+        if are_alike(name, *other) {
+            return false;
+        }
+    }
+    true
 }
 
 #[tactic(auto, unfolding(redl_grammar::specs::Names::are_distinct))]

@@ -1,13 +1,14 @@
-use Rattle.std.proofs.Common.{sym, ◌∙◌, rules, tests}
-use Rattle.std.specs.Prelude.{not}
-use Rattle.std.proofs.lemmas.Iterator.{YieldsList-from_slice}
-use Rattle.std.proofs.lemmas.Iterator.Search.{all_from_yields_List}
-use Rattle.std.proofs.lemmas.List.Folds.{list_all-map}
-use Rattle.redl_grammar.specs.Names.{name_eq}
+use Rattle.std.proofs.Common.{◌≡◌, ◌∷◌, false, true, sym, ◌∙◌, rules, tests}
 use Rattle.redl_markup.specs.Views.{name_view}
+use Rattle.redl_markup.proofs.Alike.{unlike_step}
 use Rattle.redl_markup.proofs.distinct.is_unlike.Goals as goal
 
-pub returns : goal.returns
-returns c =
-    let chain = YieldsList-from_slice c.args.others.now c.iter.ensures.rest in
-    all_from_yields_List (λ y. not (name_eq (name_view c.args.name) (name_view y))) _ _ _ c.all.ensures.ran chain (λ x b q k. search (rules, tests)) ∙ sym (list_all-map (λ m. not (name_eq (name_view c.args.name) m)) name_view c.args.others.now)
+pub returns-then-are_alike : goal.returns-then-are_alike
+returns-then-are_alike c =
+    let taken : c.loop-other.left.rest.now ≡ c.in-Some.other.now ∷ c.next.new.self.rest.now = search (rules, tests) in
+    sym (unlike_step (name_view c.args.name) c.in-Some.other.now c.next.new.self.rest.now c.loop-other.left.rest.now true taken (sym c.are_alike.ensures ∙ c.if-are_alike.true)) ∙ c.loop-other.invariant
+
+pub loop-other-preserved : goal.loop-other-preserved
+loop-other-preserved c =
+    let taken : c.loop-other.left.rest.now ≡ c.in-Some.other.now ∷ c.next.new.self.rest.now = search (rules, tests) in
+    sym (unlike_step (name_view c.args.name) c.in-Some.other.now c.next.new.self.rest.now c.loop-other.left.rest.now false taken (sym c.are_alike.ensures ∙ c.if-are_alike.false)) ∙ c.loop-other.invariant
