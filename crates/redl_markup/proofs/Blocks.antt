@@ -43,8 +43,16 @@ map_same : (f g : ℕ → ℕ) (xs : List ℕ) → ((x : ℕ) → f x ≡ g x) �
 map_same f g [] e = refl
 map_same f g (x ∷ xs) e = ap₂ (λ y ys. y ∷ ys) (e x) (map_same f g xs e)
 
-pub lanes_compared : (t : ℕ → ℕ → Bool) (y : ℕ) (block : List ℕ) → length block ≡ 64 → Lanes (λ b. t b y) block (zip2 (λ a b. lane (t a b)) block (replicate 64 y))
-lanes_compared t y block long = zip2_splat (λ a b. lane (t a b)) block 64 y long
+pub lanes_compared : (t : ℕ → ℕ → Bool) (n y : ℕ) (block : List ℕ) → length block ≡ n → Lanes (λ b. t b y) block (zip2 (λ a b. lane (t a b)) block (replicate n y))
+lanes_compared t n y block long = zip2_splat (λ a b. lane (t a b)) block n y long
+
+splat_ahead : (h : ℕ → ℕ → ℕ) (y : ℕ) (xs : List ℕ) → zip2 h (replicate (length xs) y) xs ≡ map (h y) xs
+splat_ahead h y [] = refl
+splat_ahead h y (x ∷ xs) = ap (λ (r : List ℕ). h y x ∷ r) (splat_ahead h y xs)
+
+-- the same with the sides changed
+pub lanes_from : (t : ℕ → ℕ → Bool) (n y : ℕ) (block : List ℕ) → length block ≡ n → Lanes (λ b. t y b) block (zip2 (λ a b. lane (t a b)) (replicate n y) block)
+lanes_from t n y block long = ap (λ (k : ℕ). zip2 (λ a b. lane (t a b)) (replicate k y) block) (sym long) ∙ splat_ahead (λ a b. lane (t a b)) y block
 
 pub lanes_both : (p q : ℕ → Bool) (block a b : List ℕ) → Lanes p block a → Lanes q block b → Lanes (λ x. p x && q x) block (zip2 bit_and a b)
 lanes_both p q block a b e f =
@@ -79,7 +87,7 @@ none_set p block lanes long e =
 abbrev pub is_rare : ℕ → Bool
 is_rare b = (((ltb b 32 && not (eqb b 9)) && not (eqb b 10)) && not (eqb b 13)) || eqb b 239
 
-rare_is_not_plain : (b : ℕ) → not (is_rare b) ≡ is_plain_byte b
+pub rare_is_not_plain : (b : ℕ) → not (is_rare b) ≡ is_plain_byte b
 unfolding is_plain_byte
 rare_is_not_plain b = grind (arith, nat_tests)
 

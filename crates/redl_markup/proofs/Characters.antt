@@ -27,7 +27,7 @@ text_is_utf8 bs h = (h.characters, (each_scalar h.characters h.each, sym h.whole
 text_of : (bs : List ℕ) → IsUtf8 bs → list_all is_character (chars bs) ≡ true → IsText bs
 text_of bs u h = record { characters = chars bs; each = h; whole = sym (encodes-chars bs u) }
 
-of_text : (bs : List ℕ) → IsText bs → list_all is_character (chars bs) ≡ true
+pub of_text : (bs : List ℕ) → IsText bs → list_all is_character (chars bs) ≡ true
 of_text bs h = rw (ap chars h.whole ∙ chars-encodes h.characters (each_scalar h.characters h.each)) h.each
 
 -- the test of the characters tells whether bytes in UTF-8 are a text
@@ -36,7 +36,7 @@ tests_text bs r u e = (λ t. text_of bs u (sym e ∙ t), λ h. e ∙ of_text bs 
 
 -- ---- bytes with which no forbidden character begins
 
-plain_low : (c : ℕ) → c < 128 → is_plain_byte c ≡ true → is_character c ≡ true
+pub plain_low : (c : ℕ) → c < 128 → is_plain_byte c ≡ true → is_character c ≡ true
 unfolding is_plain_byte is_character
 plain_low c low h = grind (arith, nat_tests)
 

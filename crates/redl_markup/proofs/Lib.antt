@@ -13,3 +13,5 @@ pub mod Plain
 pub mod NearBlocks
 pub mod BareLaws
 pub mod Preserving
+pub mod AllowedBytes
+pub mod LeadingAscii

@@ -1,10 +1,10 @@
 -- The first of three bytes by blocks.
-use Rattle.std.proofs.Common.{◌≡◌, ℕ, suc, ◌≤◌, ◌<◌, ◌%◌, ◌^◌, Bool, true, false, cond, eqb, List, [], ◌∷◌, ◌++◌, length, map, take, drop, replicate, refl, sym, ap, ◌∙◌, ◌+◌, length-append, arith}
+use Rattle.std.proofs.Common.{◌≡◌, ℕ, suc, ◌≤◌, ◌<◌, ◌%◌, ◌^◌, Bool, true, false, cond, eqb, List, [], ◌∷◌, ◌++◌, length, map, take, drop, replicate, refl, sym, ap, ap₂, ◌∙◌, ◌+◌, length-append, arith}
 use Rattle.std.specs.Prelude.{not}
 use Rattle.std.specs.List.{prefix_len}
 use Rattle.std.specs.Int.Count.{count_trailing_zeros}
 use Rattle.std.specs.Simd.Lanes.{mask_l, zip2, top}
-use Rattle.std.proofs.lemmas.Simd.{zip2_splat, mask_l-mod, first_set_mask_l}
+use Rattle.std.proofs.lemmas.Simd.{mask_l-mod, first_set_mask_l}
 use Rattle.std.proofs.lemmas.Bool.{eqb-true}
 use Rattle.std.proofs.lemmas.List.{length-map, take-append-drop}
 use Rattle.redl_reading.specs.Lists.{front, after, before}
@@ -13,9 +13,6 @@ use Rattle.redl_reading.proofs.Words.{before-append}
 use Rattle.redl_markup.proofs.Blocks.{lane, Lanes}
 
 -- ---- a block
-
-pub lanes_equal : (n y : ℕ) (block : List ℕ) → length block ≡ n → Lanes (λ b. eqb b y) block (zip2 (λ a b. lane (eqb a b)) block (replicate n y))
-lanes_equal n y block long = zip2_splat (λ a b. lane (eqb a b)) block n y long
 
 tops : (p : ℕ → Bool) (block : List ℕ) → map (top 7) (map (λ b. lane (p b)) block) ≡ map p block
 tops p [] = refl
@@ -83,3 +80,8 @@ miss_in p xs block rest n e f long counted many =
     let whole = whole_of xs block rest e f in
     let le : length block ≤ prefix_len p block = omega (arith, length-append block rest, ap length whole, long, counted, many) in
     sym (ap (after p) whole ∙ miss p block rest le)
+
+-- tests that answer alike find the same front
+pub front_alike : (p q : ℕ → Bool) (block : List ℕ) → ((b : ℕ) → p b ≡ q b) → prefix_len p block ≡ prefix_len q block
+front_alike p q [] e = refl
+front_alike p q (b ∷ bs) e = ap₂ (λ (t : Bool) (n : ℕ). cond t (1 + n) 0) (e b) (front_alike p q bs e)
