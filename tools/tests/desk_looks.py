@@ -187,6 +187,26 @@ def printed(driven):
     same("nothing of the paper is left on the screen", it.run("return document.getElementById('paper')"), None)
 
 
+# What is laid on the paper: its text, and how it strikes out what is deleted.
+PAPER = """
+dispatchEvent(new Event("beforeprint"));
+const { shadowRoot } = document.getElementById("paper");
+const said = [shadowRoot.textContent, getComputedStyle(shadowRoot.querySelector("del.text")).textDecorationLine];
+dispatchEvent(new Event("afterprint"));
+return [...said, document.getElementById("paper")];
+"""
+
+
+def laid_on_paper(driven):
+    """What is printed has the rules of the document's page, also where no driver prints, and is gone afterwards."""
+    it = Desk(driven)
+    it.drop(("contract.xml", example("contract.xml")))
+    text, line, after = it.run(PAPER)
+    told("the document is on the paper, with its view", 'contract.xml: view "marks" as decided on this page' in text and "Supply agreement" in text, text[:300])
+    same("what is deleted is struck out", line, "line-through")
+    same("and all is gone after it", after, None)
+
+
 def pictured(driven, file):
     """The picture of the desk for README."""
     it = contract(driven)
@@ -210,4 +230,4 @@ def papers_picture(driven):
     pictures.is_of_now(driven, "desk.png", made)
 
 
-CASES = [looks, sizes, enlarged, by_keys, round_by_keys, for_readers, printed, papers_picture]
+CASES = [looks, sizes, enlarged, by_keys, round_by_keys, for_readers, printed, laid_on_paper, papers_picture]
