@@ -5,13 +5,15 @@
 
 Documents are decided by the program, written anew by rewriter.py as a word processor would, changed further where a case wants
 that, and found again. Packages are the examples and random ones by their numbers from FIRST on, as many as there are seconds for,
-and 1,000 at most or so many.
+side by side, and 1,000 at most or so many.
 """
+import itertools
 import os
 import random
 import re
 import sys
 import time
+from concurrent.futures import ProcessPoolExecutor
 
 HERE = os.path.dirname(os.path.realpath(__file__))
 TOP = os.path.dirname(os.path.dirname(HERE))
@@ -96,6 +98,10 @@ class Pairs:
     def count(self):
         return self.same + self.equal + self.refused + len(self.wrong)
 
+    def join(self, others):
+        self.same, self.equal, self.refused = self.same + others.same, self.equal + others.equal, self.refused + others.refused
+        self.wrong += others.wrong
+
     def add(self, path, name, package, seed):
         desk = Desk(path, package)
         try:
@@ -131,19 +137,27 @@ def pairs_of_examples(path):
     tell("examples, " + pairs.told(), fault)
 
 
+def random_package(number):
+    """The random package with this number. By turns it has notes, headers or fields."""
+    package, more = small_package(random.Random(number)), (None, with_notes, with_headers, with_fields)[number % 4]
+    return more(package, random.Random(number), plain=True) if more else package
+
+
+def pairs_by_number(path, numbers, end):
+    """The pairs of the packages with these numbers, until the time is over."""
+    pairs = Pairs()
+    for number in itertools.takewhile(lambda _: time.monotonic() < end, numbers):
+        pairs.add(path, "package %d" % number, random_package(number), number)
+    return pairs
+
+
 def pairs_by_chance(path, seconds, most, first):
-    """Random packages by their numbers, until the time is over."""
-    pairs, number, end = Pairs(), first, time.monotonic() + seconds
-    while time.monotonic() < end and number < first + most:
-        package = small_package(random.Random(number))
-        if number % 4 == 3:
-            package = with_fields(package, random.Random(number), plain=True)
-        elif number % 4 == 1:
-            package = with_notes(package, random.Random(number), plain=True)
-        elif number % 4 == 2:
-            package = with_headers(package, random.Random(number), plain=True)
-        pairs.add(path, "package %d" % number, package, number)
-        number += 1
+    """Random packages by their numbers, some on each processor, until the time is over."""
+    pairs, end, beside = Pairs(), time.monotonic() + seconds, len(os.sched_getaffinity(0))
+    shares = [range(first + place, first + most, beside) for place in range(beside)]
+    with ProcessPoolExecutor(beside) as pool:
+        for share in pool.map(pairs_by_number, itertools.repeat(path), shares, itertools.repeat(end)):
+            pairs.join(share)
     tell("random packages give no other text", "; ".join(pairs.wrong[:5]))
     few = pairs.refused * 1000 < REFUSED * max(pairs.count(), 400)
     tell("random packages, " + pairs.told(), None if few else "more than %d of 1,000 are refused" % REFUSED)
