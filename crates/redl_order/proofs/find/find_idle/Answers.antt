@@ -1,12 +1,22 @@
 -- What the walk over the text adds is the references of its nodes.
-use Rattle.std.proofs.Common.{List, ◌++◌, ap, sym, ◌∙◌}
+use Rattle.std.proofs.Common.{List, ◌++◌, append-nil, codes, ap, sym, ◌∙◌}
 use Rattle.std.proofs.lemmas.Result.{on_ok_weaker}
+use Rattle.redl_reading.specs.Lists.{lacks}
 use Rattle.redl_tree.specs.Model.IdleTexts.{idle_nodes}
+use Rattle.redl_idle.proofs.AheadLaws.{idle_laid}
 use Rattle.redl_order.specs.References.{references}
 use Rattle.redl_order.specs.declared.reference.Reference.{Reference}
 use Rattle.redl_order.proofs.EncodeLaws.{same_references}
 use Rattle.redl_order.proofs.FindLaws.{shown_idle}
+use Rattle.redl_order.proofs.LackLaws.{none_named}
 use Rattle.redl_order.proofs.find.find_idle.Goals as goal
+
+pub returns-then-lacks_reference : goal.returns-then-lacks_reference
+returns-then-lacks_reference c =
+    let t = c.args.plain.now in
+    let old = c.args.seen.now.references.items in
+    let none = none_named (idle_nodes t) (idle_laid t) (ap (lacks (codes "Reference")) c.text.ensures.nodes ∙ sym c.lacks_reference.ensures ∙ c.if-lacks_reference.true) in
+    sym (ap (λ (rs : List Reference). old ++ rs) none ∙ append-nil old)
 
 pub returns : goal.returns
 returns c =
