@@ -96,12 +96,16 @@ class Writer:
     def object(self, round_it, name):
         """A unit that is no character."""
         if self.fields.silent == 0:
-            self.put(round_it, "\\[%s]" % name)
+            self.own_line(round_it, name)
 
     def part(self, round_it, part):
         """A part of a field."""
         if self.fields.meet(part):
-            self.put(round_it, "\\[field %s]" % part)
+            self.own_line(round_it, "field " + part)
+
+    def own_line(self, round_it, name):
+        """A unit with a line of its own, under the marks of what is round it."""
+        self.line("%s*%s" % (fields(round_it), name))
 
     def put(self, round_it, text):
         if not text:
@@ -161,14 +165,14 @@ def put_element(writer, element, round_it):
     if is_w and local == "fldSimple":
         writer.part(round_it, "end")
     if is_w and local == "p":
-        writer.line(fields(round_it) + "*paragraph")
+        writer.own_line(round_it, "paragraph")
 
 
 def put_begin(writer, element, round_it):
     """What an element shows at its place, before what it holds."""
     local = element.local
     if local in ("tr", "tc"):
-        writer.line("%s*%s" % (fields(round_it), {"tr": "row", "tc": "cell"}[local]))
+        writer.own_line(round_it, {"tr": "row", "tc": "cell"}[local])
     elif local in TEXTS:
         writer.text(round_it, "".join(texts.shown(kid) for kid in element.kids if isinstance(kid, str)))
     elif local in CHARACTERS:

@@ -9,8 +9,8 @@ import re
 from returned.contents import COUNTS, VOLATILE
 
 KINDS = ("ins", "del", "move-to", "move-from", "run-props")
-# A sign of an object, or text up to the next one.
-TOKEN = re.compile(r"\\\[([^\]]*)\]|(?:[^\\]|\\[^\[])+", re.S)
+# What has a line of its own in a paragraph, and is no text.
+OBJECTS = ("picture", "footnote", "endnote", "symbol", "ptab", "softHyphen", "field begin", "field separate", "field end")
 NO_DATE = ("0-00-00", "0000-", "1970-01-01T00:00")
 SHOWN = {"ins": ("{+", "+}"), "del": ("[-", "-]"), "move-to": ("{~", "~}"), "move-from": ("[~", "~]"), "run-props": ("{=", "=}")}
 # (in a bare text blanks have a backslash too)
@@ -37,7 +37,7 @@ class Story:
         self.kind, self.text = kind, text
 
     def is_empty(self):
-        return "|" not in self.text
+        return "|" not in self.text and not own_lines(self.text, OBJECTS)
 
 
 def stories_of(text):
@@ -60,6 +60,18 @@ def marks_of(line):
         found.append((kind, author, minute))
 
 
+def own_lines(text, names, end=None):
+    """Those of these names that have lines of their own, up to a place of a text."""
+    found = re.compile(r"\*(%s)\n" % "|".join(names)).finditer(text, 0, len(text) if end is None else end)
+    return [one.group(1) for one in found if is_own(text, one.start())]
+
+
+def is_own(text, place):
+    """Whether the sign at a place of a text has its line for itself but for marks, and isn't in the text of a line."""
+    begin = text.rfind("\n", 0, place) + 1
+    return begin == place or marks_of(text[begin : text.find("\n", place)])[1].startswith("*")
+
+
 class Reading:
     """One pass over the lines of a story. A paragraph is a tuple of items: (marks, text), or (sign, ..) for what has a line."""
 
@@ -75,7 +87,9 @@ class Reading:
                 continue
             stamps = tuple(sorted({self.view.stamp(*one) for one in marks}))
             if rest.startswith("|"):
-                self.add_text(stamps, rest[1:])
+                self.put(stamps, rest[1:])
+            elif rest[1:] in OBJECTS:
+                self.put_object(stamps, rest)
             else:
                 self.items.append((rest, stamps))
                 if rest == "*paragraph":
@@ -90,22 +104,15 @@ class Reading:
         self.items = []
         return tuple(made)
 
-    def add_text(self, stamps, text):
-        for token in TOKEN.finditer(text):
-            if token.group(1) is None:
-                self.put(stamps, token.group())
-            else:
-                self.add_object(stamps, token.group(1), token.group())
-
-    def add_object(self, stamps, name, sign):
-        if name == "field begin":
+    def put_object(self, stamps, sign):
+        if sign == "*field begin":
             self.fields.append(["", False])
-        elif name == "field separate" and self.fields:
+        elif sign == "*field separate" and self.fields:
             self.fields[-1][1] = True
-        elif name == "field end" and self.fields:
+        elif sign == "*field end" and self.fields:
             self.fields.pop()
         if self.view.with_objects and self.uncounted("0"):
-            self.add(stamps, sign)
+            self.items.append((sign, stamps))
 
     def put(self, stamps, text):
         if self.fields and not self.fields[-1][1]:
@@ -142,20 +149,23 @@ def unescaped(text):
 
 
 def plain(paragraph):
-    """The text of a paragraph."""
-    return "".join(unescaped(item[1]) for item in paragraph if isinstance(item[0], tuple))
+    """The text of a paragraph, with its objects."""
+    return "".join(shown(item) for item in paragraph if isinstance(item[0], tuple) or item[0][1:] in OBJECTS)
+
+
+def shown(item):
+    """What is shown of a text, or of what has a line of its own."""
+    return unescaped(item[1]) if isinstance(item[0], tuple) else "[%s]" % item[0][1:]
 
 
 def marked(paragraph):
     """The text of a paragraph with the signs of its changes."""
     out = ""
     for item in paragraph:
-        if isinstance(item[0], tuple):
-            out += with_signs(unescaped(item[1]), item[0])
-        elif item[0] == "+":
+        if item[0] == "+":
             out += "{%s by %s}" % (item[1], unescaped(item[2])) if item[2] else "{%s}" % item[1]
         elif item[0] != "*paragraph":
-            out += with_signs("[%s]" % item[0][1:], item[1])
+            out += with_signs(shown(item), item[0] if isinstance(item[0], tuple) else item[1])
     return out
 
 

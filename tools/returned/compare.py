@@ -3,8 +3,6 @@
 Headers and footers are paired as the search paired them, since parts are named anew by whoever stores a document. Notes are in the
 order of their references in both texts.
 """
-import re
-
 from returned import bare
 from returned.differences import DOCUMENT, differences
 from returned.pairs import pair_stories
@@ -12,7 +10,8 @@ from returned.partings import common
 
 KINDS = {"document": "document", "hdr": "header", "ftr": "footer"}
 NOTES = ("footnote", "endnote")
-PARAGRAPH, FIELD_BEGIN, FIELD_END = "*paragraph\n", "\\[field begin]", "\\[field end]"
+PARAGRAPH = "*paragraph\n"
+FIELD = ("field begin", "field end")
 
 
 class Comparison:
@@ -89,7 +88,8 @@ def differences_of(pairs, view):
 def differing_windows(one, other):
     """Two texts without the paragraphs at their beginnings and ends that are the same, and how many the first ones are."""
     begin = after_paragraph(one, common(one, 0, len(one), other, 0))
-    if one.count(FIELD_BEGIN, 0, begin) != one.count(FIELD_END, 0, begin):
+    parts = bare.own_lines(one, FIELD, begin)
+    if parts.count(FIELD[0]) != parts.count(FIELD[1]):
         begin = 0  # (what a field shows depends on what is before)
     most = min(len(one), len(other)) - begin
     low, high = 0, most
@@ -101,7 +101,7 @@ def differing_windows(one, other):
             high = middle - 1
     end = one.find(PARAGRAPH, len(one) - low)
     same = 0 if end < 0 else len(one) - end - len(PARAGRAPH)
-    return one.count(PARAGRAPH, 0, begin), (one[begin : len(one) - same], other[begin : len(other) - same])
+    return len(bare.own_lines(one, ("paragraph",), begin)), (one[begin : len(one) - same], other[begin : len(other) - same])
 
 
 def after_paragraph(text, place):
@@ -110,8 +110,7 @@ def after_paragraph(text, place):
         place = text.rfind(PARAGRAPH, 0, place)
         if place < 0:
             return 0
-        begin = text.rfind("\n", 0, place) + 1
-        if bare.marks_of(text[begin : place + len(PARAGRAPH) - 1])[1] == PARAGRAPH[:-1]:
+        if bare.is_own(text, place):
             return place + len(PARAGRAPH)
     return 0
 
@@ -119,7 +118,7 @@ def after_paragraph(text, place):
 def objects_differ(pairs):
     """Whether the stories of a pair have other pictures, references or fields, or in another order."""
     for _, one, other in pairs:
-        signs = [re.findall(r"\\\[[^\]]*\]", story.text) if story is not None else [] for story in (one, other)]
+        signs = [bare.own_lines(story.text, bare.OBJECTS) if story is not None else [] for story in (one, other)]
         if signs[0] != signs[1]:
             return True
     return False

@@ -1,10 +1,10 @@
 -- Which texts of one mark are left out.
-use Rattle.std.proofs.Common.{◌≡◌, ℕ, ◌+◌, ◌-◌, List, [], ◌∷◌, ◌++◌, map, Bool, true, false, ◌||◌, not, refl, ap, ◌∙◌, eqb, arith, if◌then◌else◌}
+use Rattle.std.proofs.Common.{◌≡◌, ℕ, ◌+◌, List, [], ◌∷◌, ◌++◌, map, Bool, true, false, ◌||◌, not, refl, ap, ◌∙◌, eqb, arith, if◌then◌else◌}
 use Rattle.std.proofs.lemmas.Bool.{ne_eqb}
 use Rattle.std.proofs.lemmas.List.{map-append}
 use Rattle.redl_bare.specs.Marks.{Marks}
 use Rattle.redl_bare.specs.Units.{Text, byte, object, text, in_marks}
-use Rattle.redl_bare.specs.Fields.{Fields, after_text, after_units, is_shown, uncounted}
+use Rattle.redl_bare.specs.Fields.{Fields, after_text, after_units, is_shown, kept, uncounted}
 use Rattle.redl_bare.specs.Inside.Idle.{text_number, text_of, numbers, numbered}
 use Rattle.redl_bare.specs.Inside.Texts.{after_texts, is_silent}
 use Rattle.redl_bare.specs.declared.object.Object.{Object}
@@ -57,8 +57,8 @@ pub field_units : (marks : Marks) (code : List ℕ) → in_marks marks (object F
     ≡ in_marks marks (object FieldBegin ∷ []) ++ (in_marks marks (map byte code) ++ in_marks marks (object FieldSeparate ∷ []))
 field_units marks code = ap (λ us. text marks (object FieldBegin) ∷ us) (in_marks-append marks (map byte code) (object FieldSeparate ∷ []))
 
-pub object_stays : (marks : Marks) (f : Fields) (what : Object) → is_shown f (object what) ≡ true → uncounted f (in_marks marks (object what ∷ [])) ≡ in_marks marks (object what ∷ [])
-object_stays marks f what e = ap (λ z. (if z then text marks (object what) ∷ [] else []) ++ []) e
+pub object_kept : (marks : Marks) (f : Fields) (what : Object) → is_shown f (object what) ≡ true → kept f (text marks (object what)) ≡ text marks (object what) ∷ []
+object_kept marks f what e = ap (λ z. if z then text marks (object what) ∷ [] else []) e
 
 pub object_goes : (marks : Marks) (f : Fields) (what : Object) → is_shown f (object what) ≡ false → uncounted f (in_marks marks (object what ∷ [])) ≡ []
 object_goes marks f what e = ap (λ z. (if z then text marks (object what) ∷ [] else []) ++ []) e

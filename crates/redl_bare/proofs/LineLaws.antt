@@ -1,6 +1,7 @@
 -- Lines of units that are put one after another.
 use Rattle.std.proofs.Common.{◌≡◌, ℕ, List, [], ◌∷◌, ◌++◌, Option, Result, Ok, Err, OnOk, refl, sym, ap, subst, ◌∙◌, append_assoc, append-nil}
 use Rattle.std.specs.Prelude.{IsErrAnd}
+use Rattle.std.proofs.lemmas.Result.{on_ok_weaker}
 use Rattle.std.specs.Borrow.{GName}
 use Rattle.redl_io.specs.Sink.{Puts}
 use Rattle.redl_io.specs.declared.sink.Failed.{Failed}
@@ -49,6 +50,16 @@ module _ {K : Type 0} {told : K → Option (List ℕ)} {faults settled : K → �
         fields = fields;
         marks = marks;
       } in record { puts = one_text old new unit r k p; after = always (IsAfter old new (unit ∷ [])) r after }
+
+  -- the same of one whose line was known where it ended
+  pub one_done : {T : Type 0} (old new : Writer K) (unit : BareUnit) (r : Result T Failed) → kept (fields_view old.fields) unit ≡ unit ∷ []
+      → Puts told faults settled lenders old.sink new.sink (unit_text (line_view old.line) unit) r → OnOk r (line_view new.line ≡ line_after (line_view old.line) unit)
+      → fields_view new.fields ≡ after_unit (fields_view old.fields) unit → new.marks ≡ old.marks → PutsUnits told faults settled lenders old new (unit ∷ []) r
+  one_done old new unit r k p line fields marks = record {
+    puts = one_text old new unit r k p;
+    after = on_ok_weaker r
+        (λ e. record { line = e ∙ ap (λ us. line_after_all (line_view old.line) (us ++ [])) (sym k); fields = fields; marks = marks }) line;
+  }
 
   -- and one that stopped in it
   pub one_fails : {T : Type 0} (e : Failed) (old new : Writer K) (unit : BareUnit) (r : Result T Failed) → kept (fields_view old.fields) unit ≡ unit ∷ [] → IsErrAnd r (λ f. f ≡ e)

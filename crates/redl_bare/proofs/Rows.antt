@@ -78,17 +78,23 @@ row = refl
 
 -- a picture and a part of a field
 objects : bare (opened "p" (opened "r" (opened "drawing" no_nodes ⊕ closed "fldChar" " w:fldCharType=\"begin\"")))
-    ≡ codes "= document\n|\\[picture]\\[field begin]\n*paragraph\n"
+    ≡ codes "= document\n*picture\n*field begin\n*paragraph\n"
 unfolding attributes_of attribute_in attribute_at name_at word_at char_at name_end name_step may_start may_follow is_name_start is_name_character is_space equated_at quoted_at field_at quote_at is_value
 objects = refl
 
+-- and one that was deleted
+deleted_object : bare (opened "p" (content Del 1 "del" " w:author=\"Bob\"" (opened "r" (opened "drawing" no_nodes))))
+    ≡ codes "= document\ndel\tBob\t\t*picture\n*paragraph\n"
+unfolding attributes_of attribute_in attribute_at name_at word_at char_at name_end name_step may_start may_follow is_name_start is_name_character is_space equated_at quoted_at field_at quote_at is_value
+deleted_object = refl
+
 -- of content that is kept twice the second form is left out, with what it holds
 kept_twice : bare (opened "p" (one (tag_in Other "mc" "AlternateContent" "" (End [])) (one (tag_in Other "mc" "Choice" " Requires=\"wps\"" (End [])) (opened "r" (opened "drawing" (opened "p" (run "a")))) ⊕ one (tag_in Other "mc" "Fallback" "" (End [])) (opened "r" (opened "pict" (opened "p" (run "a")))))))
-    ≡ codes "= document\n|\\[picture]a\n*paragraph\n*paragraph\n"
+    ≡ codes "= document\n*picture\n|a\n*paragraph\n*paragraph\n"
 unfolding attributes_of attribute_in attribute_at name_at word_at char_at name_end name_step may_start may_follow is_name_start is_name_character is_space equated_at quoted_at field_at quote_at is_value
 kept_twice = refl
 
--- what would be taken for a sign is escaped, and a reference is its character
+-- a backslash is escaped, and a reference is its character
 escapes : bare (opened "p" (run "a\\[b] &lt;|"))
     ≡ codes "= document\n|a\\\\[b] <|\n*paragraph\n"
 unfolding attributes_of attribute_in attribute_at name_at word_at char_at name_end name_step may_start may_follow is_name_start is_name_character is_space equated_at quoted_at field_at quote_at is_value reference_at named_at encode
@@ -96,13 +102,13 @@ escapes = refl
 
 -- a field in one element reads as one in several
 field : bare (opened "p" (one (tag_in W "w" "fldSimple" " w:instr=\" REF a \"" (End [])) (run "3")))
-    ≡ codes "= document\n|\\[field begin] REF a \\[field separate]3\\[field end]\n*paragraph\n"
+    ≡ codes "= document\n*field begin\n| REF a \n*field separate\n|3\n*field end\n*paragraph\n"
 unfolding attributes_of attribute_in attribute_at name_at word_at char_at name_end name_step may_start may_follow is_name_start is_name_character is_space equated_at quoted_at field_at quote_at is_value
 field = refl
 
 -- of one that counts pages the result is left out
 counted : bare (opened "p" (one (tag_in W "w" "fldSimple" " w:instr=\"Page\\* roman\"" (End [])) (run "3")))
-    ≡ codes "= document\n|\\[field begin]Page\\\\* roman\\[field separate]\\[field end]\n*paragraph\n"
+    ≡ codes "= document\n*field begin\n|Page\\\\* roman\n*field separate\n*field end\n*paragraph\n"
 unfolding attributes_of attribute_in attribute_at name_at word_at char_at name_end name_step may_start may_follow is_name_start is_name_character is_space equated_at quoted_at field_at quote_at is_value
 counted = refl
 
@@ -126,30 +132,30 @@ code characters = opened "r" (opened "instrText" (words characters))
 
 -- the result of one that counts pages is left out, and what follows it isn't; capitals are of no account
 page : bare (opened "p" (begin ⊕ code " pa" ⊕ code "ge \\* roman" ⊕ separate ⊕ run "iii" ⊕ end ⊕ run "b"))
-    ≡ codes "= document\n|\\[field begin] page \\\\* roman\\[field separate]\\[field end]b\n*paragraph\n"
+    ≡ codes "= document\n*field begin\n| page \\\\* roman\n*field separate\n*field end\n|b\n*paragraph\n"
 unfolding attributes_of attribute_in attribute_at name_at word_at char_at name_end name_step may_start may_follow is_name_start is_name_character is_space equated_at quoted_at field_at quote_at is_value
 page = refl
 
 -- that of another field stays, but for that of one in it
 in_result : bare (opened "p" (begin ⊕ code "REF a" ⊕ separate ⊕ run "x" ⊕ begin ⊕ code "PAGE" ⊕ separate ⊕ run "3" ⊕ end ⊕ run "y" ⊕ end ⊕ run "z"))
-    ≡ codes "= document\n|\\[field begin]REF a\\[field separate]x\\[field begin]PAGE\\[field separate]\\[field end]y\\[field end]z\n*paragraph\n"
+    ≡ codes "= document\n*field begin\n|REF a\n*field separate\n|x\n*field begin\n|PAGE\n*field separate\n*field end\n|y\n*field end\n|z\n*paragraph\n"
 unfolding attributes_of attribute_in attribute_at name_at word_at char_at name_end name_step may_start may_follow is_name_start is_name_character is_space equated_at quoted_at field_at quote_at is_value
 in_result = refl
 
 -- what is left out ends with its own field, and not with one in it
 in_counted : bare (opened "p" (begin ⊕ code "DATE" ⊕ separate ⊕ run "1" ⊕ begin ⊕ code "REF a" ⊕ separate ⊕ run "2" ⊕ end ⊕ run "3" ⊕ end ⊕ run "4"))
-    ≡ codes "= document\n|\\[field begin]DATE\\[field separate]\\[field end]4\n*paragraph\n"
+    ≡ codes "= document\n*field begin\n|DATE\n*field separate\n*field end\n|4\n*paragraph\n"
 unfolding attributes_of attribute_in attribute_at name_at word_at char_at name_end name_step may_start may_follow is_name_start is_name_character is_space equated_at quoted_at field_at quote_at is_value
 in_counted = refl
 
 -- it goes over the end of a paragraph, which stays
 over_paragraphs : bare (opened "p" (begin ⊕ code "PAGE" ⊕ separate ⊕ run "3") ⊕ opened "p" (run "4" ⊕ end ⊕ run "5"))
-    ≡ codes "= document\n|\\[field begin]PAGE\\[field separate]\n*paragraph\n|\\[field end]5\n*paragraph\n"
+    ≡ codes "= document\n*field begin\n|PAGE\n*field separate\n*paragraph\n*field end\n|5\n*paragraph\n"
 unfolding attributes_of attribute_in attribute_at name_at word_at char_at name_end name_step may_start may_follow is_name_start is_name_character is_space equated_at quoted_at field_at quote_at is_value
 over_paragraphs = refl
 
 -- without a result nothing is left out, and without an end all to the end of the story
 unfinished : bare (opened "p" (begin ⊕ code "PAGE" ⊕ end ⊕ run "a") ⊕ opened "p" (begin ⊕ code "PAGE" ⊕ separate ⊕ run "3") ⊕ opened "p" (run "b"))
-    ≡ codes "= document\n|\\[field begin]PAGE\\[field end]a\n*paragraph\n|\\[field begin]PAGE\\[field separate]\n*paragraph\n*paragraph\n"
+    ≡ codes "= document\n*field begin\n|PAGE\n*field end\n|a\n*paragraph\n*field begin\n|PAGE\n*field separate\n*paragraph\n*paragraph\n"
 unfolding attributes_of attribute_in attribute_at name_at word_at char_at name_end name_step may_start may_follow is_name_start is_name_character is_space equated_at quoted_at field_at quote_at is_value
 unfinished = refl

@@ -1,4 +1,4 @@
--- Texts with equal marks are one line.
+-- Characters with equal marks are one line.
 use Rattle.std.proofs.Common.{◌≡◌, ℕ, List, [], ◌∷◌, ◌++◌, map, length, ◌≤◌, ◌<◌, arith, Bool, true, false, ◌&&◌, ◌||◌, not, codes, bytes_eq, Option, Some, refl, sym, ap, ◌∙◌, append_assoc, eqb, if◌then◌else◌}
 use Rattle.std.proofs.lemmas.Bool.{and_from, eqb-true}
 use Rattle.std.proofs.lemmas.List.{nil_from_length}
@@ -6,8 +6,8 @@ use Rattle.std.proofs.lemmas.List.Concat.{flat_map-append}
 use Rattle.std.proofs.lemmas.Slice.Eq.{bytes_eq-Decides}
 use Rattle.redl_reading.specs.Lists.{front, after}
 use Rattle.redl_bare.specs.Marks.{Mark, Marks, sign_place, same_mark, same_marks}
-use Rattle.redl_bare.specs.Units.{Text, byte, object, in_marks}
-use Rattle.redl_bare.specs.BareText.{byte_escaped, escaped, text_body, texts_body, goes_on, begun, closing, marks_text, text_begin, lines, line_after_all}
+use Rattle.redl_bare.specs.Units.{byte, in_marks}
+use Rattle.redl_bare.specs.BareText.{byte_escaped, escaped, goes_on, begun, closing, marks_text, text_begin, lines, line_after_all}
 use Rattle.redl_marks.specs.declared.sign.Sign.{Sign}
 use Rattle.redl_marks.specs.declared.sign.Sign.TheVariants.{Inserted, Deleted, MovedTo, MovedFrom, Formatted}
 use Rattle.redl_bare.specs.Inside.Escapes.{is_plain, is_empty}
@@ -33,37 +33,16 @@ pub marks_same : (marks : Marks) → same_marks marks marks ≡ true
 marks_same [] = refl
 marks_same (mark ∷ marks) = and_from (same_mark mark mark) (same_marks marks marks) (mark_same mark) (marks_same marks)
 
--- ---- a text is never empty
+-- ---- characters in a line that is open with their marks
 
-byte_not_empty : (b : ℕ) (rest : List ℕ) → is_empty (byte_escaped b ++ rest) ≡ false
-byte_not_empty b rest = at (eqb b 92) (eqb b 9) (eqb b 10) (eqb b 13)
-  where
-    at : (slash tab line return : Bool)
-        → is_empty ((if slash then 92 ∷ 92 ∷ [] else if tab then 92 ∷ codes "t" else if line then 92 ∷ codes "n" else if return then 92 ∷ codes "r" else b ∷ []) ++ rest) ≡ false
-    at true tab line return = refl
-    at false true line return = refl
-    at false false true return = refl
-    at false false false true = refl
-    at false false false false = refl
-
-text_not_empty : (t : Text) (rest : List ℕ) → is_empty (text_body t ++ rest) ≡ false
-text_not_empty (byte b) rest = byte_not_empty b rest
-text_not_empty (object o) rest = refl
-
-pub body_empty : (texts : List Text) → is_empty (texts_body texts) ≡ is_empty texts
-body_empty [] = refl
-body_empty (t ∷ ts) = text_not_empty t (texts_body ts)
-
--- ---- texts in a line that is open with their marks
-
-going : (line : Option Marks) (marks : Marks) (texts : List Text) → goes_on line marks ≡ true
-    → (lines line (in_marks marks texts) ≡ texts_body texts) × (line_after_all line (in_marks marks texts) ≡ line)
+going : (line : Option Marks) (marks : Marks) (bs : List ℕ) → goes_on line marks ≡ true
+    → (lines line (in_marks marks (map byte bs)) ≡ escaped bs) × (line_after_all line (in_marks marks (map byte bs)) ≡ line)
 going line marks [] g = (refl, refl)
-going line marks (t ∷ ts) g =
-    let later = going line marks ts g in (
-      ap (λ b. ((if b then [] else closing line ++ (marks_text marks ++ codes "|")) ++ text_body t) ++ lines (if b then line else Some marks) (in_marks marks ts)) g
-          ∙ ap (λ l. text_body t ++ l) later.0,
-      ap (λ b. line_after_all (if b then line else Some marks) (in_marks marks ts)) g ∙ later.1,
+going line marks (b ∷ bs) g =
+    let later = going line marks bs g in (
+      ap (λ o. ((if o then [] else closing line ++ (marks_text marks ++ codes "|")) ++ byte_escaped b) ++ lines (if o then line else Some marks) (in_marks marks (map byte bs))) g
+          ∙ ap (λ l. byte_escaped b ++ l) later.0,
+      ap (λ o. line_after_all (if o then line else Some marks) (in_marks marks (map byte bs))) g ∙ later.1,
     )
 
 begun_goes_on : (line : Option Marks) (marks : Marks) → goes_on (begun line marks) marks ≡ true
@@ -73,25 +52,17 @@ begun_goes_on line marks = at (goes_on line marks) refl
     at true e = e
     at false e = marks_same marks
 
--- texts with the same marks, of which there is one
-pub texts_line : (line : Option Marks) (marks : Marks) (texts : List Text) → is_empty texts ≡ false
-    → (lines line (in_marks marks texts) ≡ text_begin line marks ++ texts_body texts) × (line_after_all line (in_marks marks texts) ≡ begun line marks)
-texts_line line marks [] e = absurd cc
-texts_line line marks (t ∷ ts) e =
-    let later = going (begun line marks) marks ts (begun_goes_on line marks) in (
-      ap (λ l. (text_begin line marks ++ text_body t) ++ l) later.0 ∙ append_assoc (text_begin line marks) (text_body t) (texts_body ts),
+-- characters with the same marks, of which there is one
+pub characters_line : (line : Option Marks) (marks : Marks) (bs : List ℕ) → is_empty bs ≡ false
+    → (lines line (in_marks marks (map byte bs)) ≡ text_begin line marks ++ escaped bs) × (line_after_all line (in_marks marks (map byte bs)) ≡ begun line marks)
+characters_line line marks [] e = absurd cc
+characters_line line marks (b ∷ bs) e =
+    let later = going (begun line marks) marks bs (begun_goes_on line marks) in (
+      ap (λ l. (text_begin line marks ++ byte_escaped b) ++ l) later.0 ∙ append_assoc (text_begin line marks) (byte_escaped b) (escaped bs),
       later.1,
     )
 
 -- ---- bytes
-
-pub bytes_body : (b : List ℕ) → texts_body (map byte b) ≡ escaped b
-bytes_body [] = refl
-bytes_body (x ∷ xs) = ap (λ l. byte_escaped x ++ l) (bytes_body xs)
-
-pub bytes_empty : (b : List ℕ) → is_empty (map byte b) ≡ is_empty b
-bytes_empty [] = refl
-bytes_empty (x ∷ xs) = refl
 
 pub escaped-append : (xs ys : List ℕ) → escaped (xs ++ ys) ≡ escaped xs ++ escaped ys
 escaped-append xs ys = flat_map-append byte_escaped xs ys

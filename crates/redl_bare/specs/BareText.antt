@@ -1,5 +1,5 @@
--- The bare text (our own rule): the units of a document with their marks, and nothing of how a file is made. Texts that follow one
--- another and have equal marks are one line.
+-- The bare text (our own rule): the units of a document with their marks, and nothing of how a file is made. Characters that follow
+-- one another and have equal marks are one line; each other unit has a line of its own.
 use Rattle.std.specs.Prelude.{ℕ, List, [], ◌∷◌, ◌++◌, ◌==◌, Bool, false, codes, Option, Some, None, if◌then◌else◌}
 use Rattle.std.specs.List.{flat_map}
 use Rattle.redl_tree.specs.Model.Nodes.{Nodes}
@@ -13,7 +13,7 @@ use Rattle.redl_shown.specs.Shown.{shown}
 use Rattle.redl_bare.specs.Marks.{Stamp, Mark, Marks, same_marks}
 use Rattle.redl_bare.specs.declared.object.Object.{Object}
 use Rattle.redl_bare.specs.declared.object.Object.TheVariants.{Picture, FootnoteReference, EndnoteReference, Symbol, PlaceTab, SoftHyphen, FieldBegin, FieldSeparate, FieldEnd}
-use Rattle.redl_bare.specs.Units.{Text, byte, object, BareUnit, text, thing, member, story}
+use Rattle.redl_bare.specs.Units.{byte, object, BareUnit, text, thing, member, story}
 use Rattle.redl_bare.specs.Package.{package_units}
 use Rattle.redl_marks.specs.declared.sign.Sign.{Sign}
 use Rattle.redl_marks.specs.declared.sign.Sign.TheVariants.{Inserted, Deleted, MovedTo, MovedFrom, Formatted}
@@ -22,7 +22,7 @@ use Rattle.redl_bare.specs.declared.units.Thing.TheVariants.{Paragraph, Row, Cel
 use Rattle.redl_bare.specs.declared.units.Story.{Story}
 use Rattle.redl_bare.specs.declared.units.Story.TheVariants.{Document, Header, Footer, Footnote, Endnote}
 
--- ---- texts
+-- ---- characters
 
 -- a backslash, a tab, a newline and a carriage return are written with a backslash before a letter, or twice
 abbrev pub byte_escaped : ℕ → List ℕ
@@ -35,25 +35,6 @@ byte_escaped b =
 
 abbrev pub escaped : List ℕ → List ℕ
 escaped bytes = flat_map byte_escaped bytes
-
-abbrev pub object_name : Object → List ℕ
-object_name Picture = codes "picture"
-object_name FootnoteReference = codes "footnote"
-object_name EndnoteReference = codes "endnote"
-object_name Symbol = codes "symbol"
-object_name PlaceTab = codes "ptab"
-object_name SoftHyphen = codes "softHyphen"
-object_name FieldBegin = codes "field begin"
-object_name FieldSeparate = codes "field separate"
-object_name FieldEnd = codes "field end"
-
--- what is written of a text; an object has a backslash and its name in square brackets
-abbrev pub text_body : Text → List ℕ
-text_body (byte b) = byte_escaped b
-text_body (object o) = 92 ∷ codes "[" ++ (object_name o ++ codes "]")
-
-abbrev pub texts_body : List Text → List ℕ
-texts_body texts = flat_map text_body texts
 
 -- ---- marks
 
@@ -76,6 +57,17 @@ abbrev pub marks_text : Marks → List ℕ
 marks_text marks = flat_map mark_text marks
 
 -- ---- lines
+
+abbrev pub object_name : Object → List ℕ
+object_name Picture = codes "picture"
+object_name FootnoteReference = codes "footnote"
+object_name EndnoteReference = codes "endnote"
+object_name Symbol = codes "symbol"
+object_name PlaceTab = codes "ptab"
+object_name SoftHyphen = codes "softHyphen"
+object_name FieldBegin = codes "field begin"
+object_name FieldSeparate = codes "field separate"
+object_name FieldEnd = codes "field end"
 
 abbrev pub thing_name : Thing → List ℕ
 thing_name Paragraph = codes "paragraph"
@@ -112,7 +104,11 @@ member_name (CellMember trace) = codes "cell-" ++ trace_name trace
 member_name (Change prop) = prop_name prop
 member_name _ = []
 
--- The end of the line of texts that is open, if one is; `open` has its marks.
+-- the line of something with this name and these marks
+abbrev pub named_line : Marks → List ℕ → List ℕ
+named_line marks name = marks_text marks ++ (codes "*" ++ (name ++ (10 ∷ [])))
+
+-- The end of the line of characters that is open, if one is.
 abbrev pub closing : Option Marks → List ℕ
 closing None = []
 closing (Some marks) = 10 ∷ []
@@ -121,25 +117,26 @@ abbrev pub goes_on : Option Marks → Marks → Bool
 goes_on None marks = false
 goes_on (Some line) marks = same_marks line marks
 
--- what comes before a text with these marks: nothing where its line is open
+-- what comes before a character with these marks: nothing where its line is open
 abbrev pub text_begin : Option Marks → Marks → List ℕ
 text_begin line marks = if goes_on line marks then [] else closing line ++ (marks_text marks ++ codes "|")
 
--- the line that is open once a text with these marks has begun
+-- the line that is open once a character with these marks has begun
 abbrev pub begun : Option Marks → Marks → Option Marks
 begun line marks = if goes_on line marks then line else Some marks
 
 -- what is written of a unit
 abbrev pub unit_text : Option Marks → BareUnit → List ℕ
-unit_text line (text marks t) = text_begin line marks ++ text_body t
-unit_text line (thing marks t) = closing line ++ (marks_text marks ++ (codes "*" ++ (thing_name t ++ (10 ∷ []))))
+unit_text line (text marks (byte b)) = text_begin line marks ++ byte_escaped b
+unit_text line (text marks (object o)) = closing line ++ named_line marks (object_name o)
+unit_text line (thing marks t) = closing line ++ named_line marks (thing_name t)
 unit_text line (member kind stamp) =
     closing line ++ (codes "+" ++ (member_name kind ++ (9 ∷ (stamp_text stamp ++ (10 ∷ [])))))
 unit_text line (story s) = closing line ++ (codes "= " ++ (story_name s ++ (10 ∷ [])))
 
 -- the line that is open after a unit
 abbrev pub line_after : Option Marks → BareUnit → Option Marks
-line_after line (text marks t) = begun line marks
+line_after line (text marks (byte b)) = begun line marks
 line_after line _ = None
 
 abbrev pub lines : Option Marks → List BareUnit → List ℕ

@@ -23,7 +23,7 @@ use Rattle.redl_bare.specs.declared.units.Story.TheVariants.{Document, Header, F
 
 -- ---- units
 
--- what is in a line: the characters by their bytes, and objects, among which are the parts of a field
+-- what a paragraph holds: characters by their bytes, and objects, among which are the parts of a field
 pub data Text : Type 0 where
   byte : ℕ → Text
   object : Object → Text
@@ -76,7 +76,7 @@ place_inside Open tag = open_inside tag
 
 -- ---- what an element is
 
--- the characters and the object that an element shows in its line
+-- the characters and the object that an element shows
 abbrev pub field_part : List ℕ → List Text
 field_part kind =
     if bytes_eq kind (codes "begin") then object FieldBegin ∷ []

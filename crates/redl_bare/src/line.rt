@@ -1,9 +1,9 @@
-//! Lines: texts that follow one another with equal marks are one.
+//! Lines: characters that follow one another with equal marks are one.
 
 ghost use Rattle.std.specs.Prelude.{◌≡◌, ◌∷◌, ◌++◌, [], Some, None, OnOk, codes};
 ghost use Rattle.redl_io.specs.Sink.{Puts};
 ghost use Rattle.redl_bare.specs.Units.{thing, story, member};
-ghost use Rattle.redl_bare.specs.BareText.{closing, goes_on, text_begin, begun, marks_text, member_name, stamp_text};
+ghost use Rattle.redl_bare.specs.BareText.{closing, goes_on, text_begin, begun, marks_text, named_line, member_name, stamp_text};
 ghost use Rattle.redl_bare.specs.Inside.Views.{stamp_view, marks_view, line_view};
 ghost use Rattle.redl_bare.specs.Inside.Puts.{PutsUnits};
 
@@ -15,12 +15,12 @@ use redl_io::{Failed, Sink, put_piece, put_pieces};
 use redl_marks::{Marks, Stamp};
 use redl_tree::Kind;
 
-/// The line of texts.
+/// The line of characters.
 #[derive(Drop)]
 pub(crate) struct Line<'a> {
     /// Whether a line is open.
     pub is_open: bool,
-    /// The marks of its texts.
+    /// The marks of its characters.
     pub marks: Marks<'a>,
 }
 
@@ -52,7 +52,7 @@ impl<'a> Line<'a> {
     }
 }
 
-/// Puts the end of the line of texts that is open, if one is.
+/// Puts the end of the line of characters that is open, if one is.
 pub(crate) fn close<K: Sink>(line: &Line<'_>, sink: &mut K) -> Result<(), Failed>
     ensures { Puts K.told K.faults K.settled K.lenders sink.old sink.new (closing (line_view line.now)) result }
 {
@@ -62,7 +62,7 @@ pub(crate) fn close<K: Sink>(line: &Line<'_>, sink: &mut K) -> Result<(), Failed
     Ok(())
 }
 
-/// Puts what comes before a text, and opens its line.
+/// Puts what comes before a character, and opens its line.
 pub(crate) fn begin<'a, K: Sink>(writer: &mut Writer<'a, K>) -> Result<(), Failed>
     ensures puts { Puts K.told K.faults K.settled K.lenders writer.old.sink writer.new.sink (text_begin (line_view writer.old.line) (marks_view writer.old.marks)) result }
     ensures after { OnOk result (line_view writer.new.line ≡ begun (line_view writer.old.line) (marks_view writer.old.marks)) }
@@ -85,14 +85,24 @@ fn put_begin<K: Sink>(marks: &Marks<'_>, line: &Line<'_>, sink: &mut K) -> Resul
     put_piece(b"|", sink)
 }
 
-/// Puts the line of something.
-pub(crate) fn put_thing<'a, K: Sink>(what: Thing, writer: &mut Writer<'a, K>) -> Result<(), Failed>
-    ensures { PutsUnits K.told K.faults K.settled K.lenders writer.old writer.new (thing (marks_view writer.old.marks) what ∷ []) result }
+/// Puts the line of something with this name and the marks of what is put now.
+pub(crate) fn put_named<'a, K: Sink>(name: &[u8], writer: &mut Writer<'a, K>) -> Result<(), Failed>
+    ensures puts { Puts K.told K.faults K.settled K.lenders writer.old.sink writer.new.sink (closing (line_view writer.old.line) ++ named_line (marks_view writer.old.marks) name.now) result }
+    ensures after { OnOk result (line_view writer.new.line ≡ None) }
+    ensures marks { writer.new.marks ≡ writer.old.marks }
+    ensures fields { writer.new.fields ≡ writer.old.fields }
 {
     close(&writer.line, &mut writer.sink)?;
     put_marks(&writer.marks, &mut writer.sink)?;
     writer.line.is_open = false;
-    put_pieces(&[b"*".as_slice(), what.name(), b"\n"], &mut writer.sink)
+    put_pieces(&[b"*".as_slice(), name, b"\n"], &mut writer.sink)
+}
+
+/// Puts the line of the end of a paragraph, or of the begin of a row or a cell.
+pub(crate) fn put_thing<'a, K: Sink>(what: Thing, writer: &mut Writer<'a, K>) -> Result<(), Failed>
+    ensures { PutsUnits K.told K.faults K.settled K.lenders writer.old writer.new (thing (marks_view writer.old.marks) what ∷ []) result }
+{
+    put_named(what.name(), writer)
 }
 
 /// Puts the line with which a story begins. No field goes on into it.

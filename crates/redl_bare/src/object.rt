@@ -1,10 +1,9 @@
-//! What is seen in a line and is no character.
+//! What is seen in a paragraph and is no character.
 
 ghost use Rattle.std.specs.Prelude.{◌≡◌};
-ghost use Rattle.redl_bare.specs.Units.{object};
-ghost use Rattle.redl_bare.specs.BareText.{text_body};
+ghost use Rattle.redl_bare.specs.BareText.{object_name};
 
-/// What is seen in a line and is no character.
+/// What is seen in a paragraph and is no character.
 #[derive(Clone, Copy, Debug, PartialEq, Eq)]
 pub enum Object {
     /// A picture.
@@ -28,20 +27,20 @@ pub enum Object {
 }
 
 impl Object {
-    /// It, as it is written.
-    pub(crate) fn body(self) -> &'static [u8]
-        ensures { result.now ≡ text_body (object self) }
+    /// Its name in a line.
+    pub(crate) fn name(self) -> &'static [u8]
+        ensures { result.now ≡ object_name self }
     {
         match self {
-            Object::Picture => b"\\[picture]",
-            Object::FootnoteReference => b"\\[footnote]",
-            Object::EndnoteReference => b"\\[endnote]",
-            Object::Symbol => b"\\[symbol]",
-            Object::PlaceTab => b"\\[ptab]",
-            Object::SoftHyphen => b"\\[softHyphen]",
-            Object::FieldBegin => b"\\[field begin]",
-            Object::FieldSeparate => b"\\[field separate]",
-            Object::FieldEnd => b"\\[field end]",
+            Object::Picture => b"picture",
+            Object::FootnoteReference => b"footnote",
+            Object::EndnoteReference => b"endnote",
+            Object::Symbol => b"symbol",
+            Object::PlaceTab => b"ptab",
+            Object::SoftHyphen => b"softHyphen",
+            Object::FieldBegin => b"field begin",
+            Object::FieldSeparate => b"field separate",
+            Object::FieldEnd => b"field end",
         }
     }
 }

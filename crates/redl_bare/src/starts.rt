@@ -1,4 +1,4 @@
-//! What elements show in their line at their tags.
+//! What elements show at their tags.
 
 ghost use Rattle.std.specs.Prelude.{◌≡◌, ◌∷◌, []};
 ghost use Rattle.redl_tree.specs.Roles.Names.{is_any, of_w};
@@ -10,7 +10,7 @@ use crate::object::Object;
 use crate::place::BarePlace;
 use crate::values::value_in;
 
-/// What an element shows in its line.
+/// What an element shows.
 #[derive(Clone, Copy)]
 pub(crate) enum Short {
     /// Nothing.
@@ -21,7 +21,7 @@ pub(crate) enum Short {
     One(Object),
 }
 
-/// What an element of W with this local name and tail, which is no field, shows in its line.
+/// What an element of W with this local name and tail, which is no field, shows.
 pub(crate) fn start_of(local: &[u8], tail: &[u8]) -> Short
     ensures { short_of result ≡ short_texts (tag_with local.now tail.now) }
 {

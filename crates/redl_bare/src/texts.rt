@@ -1,4 +1,4 @@
-//! Texts of a line, but for results that are left out.
+//! Characters and objects, but for results that are left out.
 
 ghost use Rattle.std.specs.Prelude.{◌∷◌, [], map};
 ghost use Rattle.redl_shown.specs.Pieces.{piece_text};
@@ -9,11 +9,11 @@ ghost use Rattle.redl_bare.specs.Inside.Texts.{short_of};
 ghost use Rattle.redl_bare.specs.Inside.Views.{marks_view};
 
 use crate::escape::put_escaped;
-use crate::line::begin;
+use crate::line::{begin, put_named};
 use crate::object::Object;
 use crate::starts::Short;
 use crate::writer::Writer;
-use redl_io::{Failed, Sink, put_piece};
+use redl_io::{Failed, Sink};
 use redl_shown::{ShownPiece, next_shown, start};
 
 /// Puts what bytes of a document show. It takes no memory.
@@ -68,11 +68,10 @@ fn put_object<'a, K: Sink>(what: Object, writer: &mut Writer<'a, K>) -> Result<(
     if !writer.fields.pass(what) {
         return Ok(());
     }
-    begin(writer)?;
-    put_piece(what.body(), &mut writer.sink)
+    put_named(what.name(), writer)
 }
 
-/// Puts what an element shows in its line.
+/// Puts what an element shows.
 pub(crate) fn put_short<'a, K: Sink>(short: Short, writer: &mut Writer<'a, K>) -> Result<(), Failed>
     ensures { PutsUnits K.told K.faults K.settled K.lenders writer.old writer.new (in_marks (marks_view writer.old.marks) (short_of short)) result }
 {

@@ -135,7 +135,7 @@ fn put_start_texts<'a, K: Sink>(elem: &Elem<'a>, writer: &mut Writer<'a, K>) -> 
     put_short(start_of_elem(elem), writer)
 }
 
-// What an element that is no field shows in its line.
+// What an element that is no field shows.
 fn start_of_elem(elem: &Elem) -> Short
     ensures { short_of result ≡ short_texts (tag_of elem.now) }
 {

@@ -14,7 +14,7 @@ pub struct Writer<'a, K> {
     pub sink: K,
     /// The marks of what is put now.
     pub(crate) marks: Marks<'a>,
-    /// The line of texts.
+    /// The line of characters.
     pub(crate) line: Line<'a>,
     /// The fields that are open.
     pub(crate) fields: Fields,

@@ -4,15 +4,14 @@ use Rattle.std.specs.Option.{option_map}
 use Rattle.std.proofs.lemmas.Bool.{and_parts, eqb-false, eqb-true}
 use Rattle.std.proofs.lemmas.Slice.Eq.{bytes_eq-Decides}
 use Rattle.redl_bare.specs.Marks.{Stamp, Mark, Marks, sign_place, same_mark, same_marks}
-use Rattle.redl_bare.specs.Units.{Text, BareUnit, text, thing, member, story}
-use Rattle.redl_bare.specs.BareText.{text_body, stamp_text, marks_text, thing_name, story_name, member_name, closing, lines, line_after_all, units_text}
-use Rattle.redl_bare.specs.declared.units.Thing.{Thing}
+use Rattle.redl_bare.specs.Units.{byte, object, BareUnit, text, thing, member, story}
+use Rattle.redl_bare.specs.BareText.{byte_escaped, stamp_text, marks_text, story_name, member_name, closing, lines, line_after_all, units_text}
 use Rattle.redl_bare.specs.declared.units.Story.{Story}
 use Rattle.redl_tree.specs.declared.kinds.Kind.{Kind}
 use Rattle.redl_bare_sound.specs.Said.{said_stamp, said_marks, said_unit, AreNamed}
-use Rattle.redl_bare_sound.proofs.Splits.{head_of, tail_of, text_split, text_no_line}
+use Rattle.redl_bare_sound.proofs.Splits.{head_of, tail_of, byte_split, byte_no_line}
 use Rattle.redl_bare_sound.proofs.MarkSplits.{same_sign, of_text, of_thing, marks_split, stamp_before_line, sort_of, sort_marks}
-use Rattle.redl_bare_sound.proofs.Names.{thing_split, story_split, kind_split}
+use Rattle.redl_bare_sound.proofs.Names.{Own, own_thing, own_object, own_name, own_split, story_split, kind_split}
 
 -- ---- equal marks are one
 
@@ -38,11 +37,17 @@ marks_are (a ∷ m) (b ∷ k) e =
 abbrev rest : Option Marks → List BareUnit → List ℕ
 rest line us = lines line us ++ closing (line_after_all line us)
 
-text_begins : (m : Marks) (t : Text) (us : List BareUnit) → rest None (text m t ∷ us) ≡ marks_text m ++ (124 ∷ (text_body t ++ rest (Some m) us))
-text_begins m t us = simp append_assoc
+character_begins : (m : Marks) (c : ℕ) (us : List BareUnit) → rest None (text m (byte c) ∷ us) ≡ marks_text m ++ (124 ∷ (byte_escaped c ++ rest (Some m) us))
+character_begins m c us = simp append_assoc
 
-thing_begins : (m : Marks) (t : Thing) (us : List BareUnit) → rest None (thing m t ∷ us) ≡ marks_text m ++ (42 ∷ (thing_name t ++ (10 ∷ rest None us)))
-thing_begins m t us = simp append_assoc
+-- what has a line of its own, as a unit
+abbrev own_unit : Marks → Own → BareUnit
+own_unit m (own_thing t) = thing m t
+own_unit m (own_object o) = text m (object o)
+
+own_begins : (m : Marks) (o : Own) (us : List BareUnit) → rest None (own_unit m o ∷ us) ≡ marks_text m ++ (42 ∷ (own_name o ++ (10 ∷ rest None us)))
+own_begins m (own_thing t) us = simp append_assoc
+own_begins m (own_object o) us = simp append_assoc
 
 member_begins : (k : Kind) (s : Stamp) (us : List BareUnit) → rest None (member k s ∷ us) ≡ 43 ∷ (member_name k ++ (9 ∷ (stamp_text s ++ (10 ∷ rest None us))))
 member_begins k s us = simp append_assoc
@@ -56,9 +61,13 @@ sort_unit (thing m t) = 3
 sort_unit (member k s) = 1
 sort_unit (story s) = 2
 
+sort_own : (m : Marks) (o : Own) (us : List BareUnit) → sort_of (rest None (own_unit m o ∷ us)) ≡ 3
+sort_own m o us = ap sort_of (own_begins m o us) ∙ sort_marks m 42 (own_name o ++ (10 ∷ rest None us)) of_thing
+
 sort_rest : (u : BareUnit) (us : List BareUnit) → sort_of (rest None (u ∷ us)) ≡ sort_unit u
-sort_rest (text m t) us = ap sort_of (text_begins m t us) ∙ sort_marks m 124 (text_body t ++ rest (Some m) us) of_text
-sort_rest (thing m t) us = ap sort_of (thing_begins m t us) ∙ sort_marks m 42 (thing_name t ++ (10 ∷ rest None us)) of_thing
+sort_rest (text m (byte c)) us = ap sort_of (character_begins m c us) ∙ sort_marks m 124 (byte_escaped c ++ rest (Some m) us) of_text
+sort_rest (text m (object o)) us = sort_own m (own_object o) us
+sort_rest (thing m t) us = sort_own m (own_thing t) us
 sort_rest (member k s) us = ap sort_of (member_begins k s us)
 sort_rest (story s) us = ap sort_of (story_begins s us)
 
@@ -80,23 +89,28 @@ not_empty u us h = sort_some u (sym (sort_rest u us) ∙ ap sort_of h)
 -- the first of these goes on in it
 abbrev goes : Marks → List BareUnit → Bool
 goes l [] = false
-goes l (text m t ∷ us) = same_marks l m
+goes l (text m (byte c) ∷ us) = same_marks l m
+goes l (text m (object o) ∷ us) = false
 goes l (thing m t ∷ us) = false
 goes l (member k s ∷ us) = false
 goes l (story s ∷ us) = false
 
+-- what follows where the line of a character with these marks is open, or isn't
+abbrev going : Marks → Marks → ℕ → List BareUnit → Bool → List ℕ
+going l m c us b =
+    (((if b then [] else (10 ∷ []) ++ (marks_text m ++ codes "|")) ++ byte_escaped c) ++ lines (if b then Some l else Some m) us)
+    ++ closing (line_after_all (if b then Some l else Some m) us)
+
 breaks : (l : Marks) (us : List BareUnit) → goes l us ≡ false → rest (Some l) us ≡ 10 ∷ rest None us
 breaks l [] e = refl
-breaks l (text m t ∷ us) e =
-    ap (λ b. (((if b then [] else (10 ∷ []) ++ (marks_text m ++ codes "|")) ++ text_body t) ++ lines (if b then Some l else Some m) us) ++ closing (line_after_all (if b then Some l else Some m) us)) e
+breaks l (text m (byte c) ∷ us) e = ap (going l m c us) e
+breaks l (text m (object o) ∷ us) e = refl
 breaks l (thing m t ∷ us) e = refl
 breaks l (member k s ∷ us) e = refl
 breaks l (story s ∷ us) e = refl
 
-goes_text : (l m : Marks) (t : Text) (us : List BareUnit) → same_marks l m ≡ true → rest (Some l) (text m t ∷ us) ≡ text_body t ++ rest (Some l) us
-goes_text l m t us e =
-    ap (λ b. (((if b then [] else (10 ∷ []) ++ (marks_text m ++ codes "|")) ++ text_body t) ++ lines (if b then Some l else Some m) us) ++ closing (line_after_all (if b then Some l else Some m) us)) e
-    ∙ append_assoc (text_body t) (lines (Some l) us) (closing (line_after_all (Some l) us))
+goes_character : (l m : Marks) (c : ℕ) (us : List BareUnit) → same_marks l m ≡ true → rest (Some l) (text m (byte c) ∷ us) ≡ byte_escaped c ++ rest (Some l) us
+goes_character l m c us e = ap (going l m c us) e ∙ append_assoc (byte_escaped c) (lines (Some l) us) (closing (line_after_all (Some l) us))
 
 -- ---- the same units
 
@@ -110,24 +124,41 @@ Same xs = (line other : Option Marks) → said_line line ≡ said_line other →
 joined : (x y : BareUnit) (xs ys : List BareUnit) → said_unit x ≡ said_unit y → map said_unit xs ≡ map said_unit ys → map said_unit (x ∷ xs) ≡ map said_unit (y ∷ ys)
 joined x y xs ys e f = ap (λ u. u ∷ map said_unit xs) e ∙ ap (λ us. said_unit y ∷ us) f
 
+said_own : (m : Marks) (o : Own) → said_unit (own_unit m o) ≡ own_unit (said_marks m) o
+said_own m (own_thing t) = refl
+said_own m (own_object o) = refl
+
+own_step : (m k : Marks) (o p : Own) (xs ys : List BareUnit) → Same xs → AreNamed xs → AreNamed ys → rest None (own_unit m o ∷ xs) ≡ rest None (own_unit k p ∷ ys)
+    → map said_unit (own_unit m o ∷ xs) ≡ map said_unit (own_unit k p ∷ ys)
+own_step m k o p xs ys same a b h =
+    let marks = marks_split m k 42 42 (own_name o ++ (10 ∷ rest None xs)) (own_name p ++ (10 ∷ rest None ys)) of_thing of_thing (sym (own_begins m o xs) ∙ h ∙ own_begins k p ys) in
+    let name = own_split o p (rest None xs) (rest None ys) (ap tail_of marks.1) in
+    joined (own_unit m o) (own_unit k p) xs ys (said_own m o ∙ ap (λ n. own_unit n o) marks.0 ∙ ap (own_unit (said_marks k)) name.0 ∙ sym (said_own k p))
+    (same None None refl ys a b name.1)
+
+-- a character is not what has a line of its own
+not_own : (m k : Marks) (c : ℕ) (p : Own) (xs ys : List BareUnit) → rest None (text m (byte c) ∷ xs) ≡ rest None (own_unit k p ∷ ys) → ⊥
+not_own m k c p xs ys h =
+    let marks = marks_split m k 124 42 (byte_escaped c ++ rest (Some m) xs) (own_name p ++ (10 ∷ rest None ys)) of_text of_thing (sym (character_begins m c xs) ∙ h ∙ own_begins k p ys) in
+    eqb-false 124 42 refl (ap head_of marks.1)
+
 none_step : (x : BareUnit) (xs : List BareUnit) → Same xs → (ys : List BareUnit) → AreNamed (x ∷ xs) → AreNamed ys → rest None (x ∷ xs) ≡ rest None ys → map said_unit (x ∷ xs) ≡ map said_unit ys
 none_step x xs same [] a b h = absurd (not_empty x xs h)
-none_step (text m t) xs same (text k u ∷ ys) a b h =
-    let marks = marks_split m k 124 124 (text_body t ++ rest (Some m) xs) (text_body u ++ rest (Some k) ys) of_text of_text (sym (text_begins m t xs) ∙ h ∙ text_begins k u ys) in
-    let body = text_split t u (rest (Some m) xs) (rest (Some k) ys) (ap tail_of marks.1) in
-    joined (text m t) (text k u) xs ys (ap (λ n. text n t) marks.0 ∙ ap (text (said_marks k)) body.0) (same (Some m) (Some k) (ap (λ n. Some n) marks.0) ys a.1 b.1 body.1)
-none_step (text m t) xs same (thing k u ∷ ys) a b h =
-    let marks = marks_split m k 124 42 (text_body t ++ rest (Some m) xs) (thing_name u ++ (10 ∷ rest None ys)) of_text of_thing (sym (text_begins m t xs) ∙ h ∙ thing_begins k u ys) in
-    absurd (eqb-false 124 42 refl (ap head_of marks.1))
+none_step (text m (byte c)) xs same (text k (byte d) ∷ ys) a b h =
+    let marks = marks_split m k 124 124 (byte_escaped c ++ rest (Some m) xs) (byte_escaped d ++ rest (Some k) ys) of_text of_text (sym (character_begins m c xs) ∙ h ∙ character_begins k d ys) in
+    let body = byte_split c d (rest (Some m) xs) (rest (Some k) ys) (ap tail_of marks.1) in
+    joined (text m (byte c)) (text k (byte d)) xs ys (ap (λ n. text n (byte c)) marks.0 ∙ ap (λ e. text (said_marks k) (byte e)) body.0)
+    (same (Some m) (Some k) (ap (λ n. Some n) marks.0) ys a.1 b.1 body.1)
+none_step (text m (byte c)) xs same (text k (object p) ∷ ys) a b h = absurd (not_own m k c (own_object p) xs ys h)
+none_step (text m (byte c)) xs same (thing k u ∷ ys) a b h = absurd (not_own m k c (own_thing u) xs ys h)
+none_step (text m (object o)) xs same (text k (byte d) ∷ ys) a b h = absurd (not_own k m d (own_object o) ys xs (sym h))
+none_step (text m (object o)) xs same (text k (object p) ∷ ys) a b h = own_step m k (own_object o) (own_object p) xs ys same a.1 b.1 h
+none_step (text m (object o)) xs same (thing k u ∷ ys) a b h = own_step m k (own_object o) (own_thing u) xs ys same a.1 b.1 h
 none_step (text m t) xs same (member k s ∷ ys) a b h = absurd (eqb-false 3 1 refl (sorts (text m t) (member k s) xs ys h))
 none_step (text m t) xs same (story s ∷ ys) a b h = absurd (eqb-false 3 2 refl (sorts (text m t) (story s) xs ys h))
-none_step (thing m t) xs same (text k u ∷ ys) a b h =
-    let marks = marks_split m k 42 124 (thing_name t ++ (10 ∷ rest None xs)) (text_body u ++ rest (Some k) ys) of_thing of_text (sym (thing_begins m t xs) ∙ h ∙ text_begins k u ys) in
-    absurd (eqb-false 42 124 refl (ap head_of marks.1))
-none_step (thing m t) xs same (thing k u ∷ ys) a b h =
-    let marks = marks_split m k 42 42 (thing_name t ++ (10 ∷ rest None xs)) (thing_name u ++ (10 ∷ rest None ys)) of_thing of_thing (sym (thing_begins m t xs) ∙ h ∙ thing_begins k u ys) in
-    let name = thing_split t u (rest None xs) (rest None ys) (ap tail_of marks.1) in
-    joined (thing m t) (thing k u) xs ys (ap (λ n. thing n t) marks.0 ∙ ap (thing (said_marks k)) name.0) (same None None refl ys a.1 b.1 name.1)
+none_step (thing m t) xs same (text k (byte d) ∷ ys) a b h = absurd (not_own k m d (own_thing t) ys xs (sym h))
+none_step (thing m t) xs same (text k (object p) ∷ ys) a b h = own_step m k (own_thing t) (own_object p) xs ys same a.1 b.1 h
+none_step (thing m t) xs same (thing k u ∷ ys) a b h = own_step m k (own_thing t) (own_thing u) xs ys same a.1 b.1 h
 none_step (thing m t) xs same (member k s ∷ ys) a b h = absurd (eqb-false 3 1 refl (sorts (thing m t) (member k s) xs ys h))
 none_step (thing m t) xs same (story s ∷ ys) a b h = absurd (eqb-false 3 2 refl (sorts (thing m t) (story s) xs ys h))
 none_step (member k s) xs same (text m t ∷ ys) a b h = absurd (eqb-false 1 3 refl (sorts (member k s) (text m t) xs ys h))
@@ -148,10 +179,11 @@ none_empty : (ys : List BareUnit) → [] ≡ rest None ys → [] ≡ map said_un
 none_empty [] h = refl
 none_empty (y ∷ ys) h = absurd (not_empty y ys (sym h))
 
--- a text that goes on has no newline first
+-- a character that goes on has no newline first
 goes_no_line : (l : Marks) (ys : List BareUnit) (X : List ℕ) → goes l ys ≡ true → rest (Some l) ys ≡ 10 ∷ X → ⊥
 goes_no_line l [] X g h = absurd cc
-goes_no_line l (text m t ∷ ys) X g h = text_no_line t (rest (Some l) ys) X (sym (goes_text l m t ys g) ∙ h)
+goes_no_line l (text m (byte c) ∷ ys) X g h = byte_no_line c (rest (Some l) ys) X (sym (goes_character l m c ys g) ∙ h)
+goes_no_line l (text m (object o) ∷ ys) X g h = absurd cc
 goes_no_line l (thing m t ∷ ys) X g h = absurd cc
 goes_no_line l (member k s ∷ ys) X g h = absurd cc
 goes_no_line l (story s ∷ ys) X g h = absurd cc
@@ -159,17 +191,20 @@ goes_no_line l (story s ∷ ys) X g h = absurd cc
 -- both go on
 goes_both : (l k : Marks) → said_marks l ≡ said_marks k → (x : BareUnit) (xs : List BareUnit) → Same xs → (ys : List BareUnit) → AreNamed (x ∷ xs) → AreNamed ys
     → goes l (x ∷ xs) ≡ true → goes k ys ≡ true → rest (Some l) (x ∷ xs) ≡ rest (Some k) ys → map said_unit (x ∷ xs) ≡ map said_unit ys
-goes_both l k e (text m t) xs same (text n u ∷ ys) a b g f h =
-    let body = text_split t u (rest (Some l) xs) (rest (Some k) ys) (sym (goes_text l m t xs g) ∙ h ∙ goes_text k n u ys f) in
+goes_both l k e (text m (byte c)) xs same (text n (byte d) ∷ ys) a b g f h =
+    let body = byte_split c d (rest (Some l) xs) (rest (Some k) ys) (sym (goes_character l m c xs g) ∙ h ∙ goes_character k n d ys f) in
     let marks : said_marks m ≡ said_marks n = ap said_marks (sym (marks_are l m g)) ∙ e ∙ ap said_marks (marks_are k n f) in
-    joined (text m t) (text n u) xs ys (ap (λ c. text c t) marks ∙ ap (text (said_marks n)) body.0) (same (Some l) (Some k) (ap (λ c. Some c) e) ys a.1 b.1 body.1)
+    joined (text m (byte c)) (text n (byte d)) xs ys (ap (λ z. text z (byte c)) marks ∙ ap (λ z. text (said_marks n) (byte z)) body.0)
+    (same (Some l) (Some k) (ap (λ z. Some z) e) ys a.1 b.1 body.1)
 goes_both l k e x xs same [] a b g f h = absurd cc
+goes_both l k e x xs same (text n (object p) ∷ ys) a b g f h = absurd cc
 goes_both l k e x xs same (thing n u ∷ ys) a b g f h = absurd cc
 goes_both l k e x xs same (member n u ∷ ys) a b g f h = absurd cc
 goes_both l k e x xs same (story s ∷ ys) a b g f h = absurd cc
-goes_both l k e (thing m t) xs same (text n u ∷ ys) a b g f h = absurd cc
-goes_both l k e (member m t) xs same (text n u ∷ ys) a b g f h = absurd cc
-goes_both l k e (story s) xs same (text n u ∷ ys) a b g f h = absurd cc
+goes_both l k e (text m (object o)) xs same (text n (byte d) ∷ ys) a b g f h = absurd cc
+goes_both l k e (thing m t) xs same (text n (byte d) ∷ ys) a b g f h = absurd cc
+goes_both l k e (member m t) xs same (text n (byte d) ∷ ys) a b g f h = absurd cc
+goes_both l k e (story s) xs same (text n (byte d) ∷ ys) a b g f h = absurd cc
 
 some_step : (l k : Marks) → said_marks l ≡ said_marks k → (x : BareUnit) (xs : List BareUnit) → Same xs → (ys : List BareUnit) → AreNamed (x ∷ xs) → AreNamed ys
     → rest (Some l) (x ∷ xs) ≡ rest (Some k) ys → map said_unit (x ∷ xs) ≡ map said_unit ys

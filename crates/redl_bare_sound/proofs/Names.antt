@@ -7,7 +7,9 @@ use Rattle.redl_tree.specs.declared.kinds.Prop.TheVariants as props
 use Rattle.redl_tree.specs.declared.kinds.Kind.{Kind}
 use Rattle.redl_tree.specs.declared.kinds.Kind.TheVariants as kind
 use Rattle.redl_bare.specs.Units.{has_line}
-use Rattle.redl_bare.specs.BareText.{thing_name, story_name, trace_name, member_name}
+use Rattle.redl_bare.specs.BareText.{thing_name, object_name, story_name, trace_name, member_name}
+use Rattle.redl_bare.specs.declared.object.Object.{Object}
+use Rattle.redl_bare.specs.declared.object.Object.TheVariants.{Picture, FootnoteReference, EndnoteReference, Symbol, PlaceTab, SoftHyphen, FieldBegin, FieldSeparate, FieldEnd}
 use Rattle.redl_bare.specs.declared.units.Thing.{Thing}
 use Rattle.redl_bare.specs.declared.units.Thing.TheVariants.{Paragraph, Row, Cell}
 use Rattle.redl_bare.specs.declared.units.Story.{Story}
@@ -26,28 +28,74 @@ name_split end name_of back a b e f p q X Y h =
     let same : a ≡ b = sym e ∙ ap back (sym (p X) ∙ ap (front (is_not end)) h ∙ q Y) ∙ f in
     (same, ap tail_of (cancel (name_of b) (end ∷ X) (end ∷ Y) (ap (λ c. name_of c ++ (end ∷ X)) (sym same) ∙ h)))
 
--- ---- things
+-- ---- what has a line of its own
 
-abbrev thing_so : List ℕ → Thing
-thing_so name = if eqb (head_of name) 112 then Paragraph else if eqb (head_of name) 114 then Row else Cell
+pub data Own : Type 0 where
+  own_thing : Thing → Own
+  own_object : Object → Own
 
-thing_back : (t : Thing) → thing_so (thing_name t) ≡ t
-thing_back Paragraph = refl
-thing_back Row = refl
-thing_back Cell = refl
-
-thing_front : (t : Thing) (X : List ℕ) → front (is_not 10) (thing_name t ++ (10 ∷ X)) ≡ thing_name t
-thing_front Paragraph X = refl
-thing_front Row X = refl
-thing_front Cell X = refl
-
-pub thing_split : (t u : Thing) (X Y : List ℕ) → thing_name t ++ (10 ∷ X) ≡ thing_name u ++ (10 ∷ Y) → (t ≡ u) × (X ≡ Y)
-thing_split t u X Y h = name_split 10 thing_name thing_so t u (thing_back t) (thing_back u) (thing_front t) (thing_front u) X Y h
-
--- ---- stories
+abbrev pub own_name : Own → List ℕ
+own_name (own_thing t) = thing_name t
+own_name (own_object o) = object_name o
 
 abbrev fifth : List ℕ → ℕ
 fifth name = head_of (tail_of (tail_of (tail_of (tail_of name))))
+
+abbrev sixth : List ℕ → ℕ
+sixth name = fifth (tail_of name)
+
+-- by the second letter those whose names have the same first one, and of the parts of a field the letter after the blank
+abbrev own_p : ℕ → Own
+own_p b = if eqb b 97 then own_thing Paragraph else if eqb b 105 then own_object Picture else own_object PlaceTab
+
+abbrev own_s : ℕ → Own
+own_s b = if eqb b 121 then own_object Symbol else own_object SoftHyphen
+
+abbrev own_field : ℕ → Own
+own_field b = if eqb b 98 then own_object FieldBegin else if eqb b 115 then own_object FieldSeparate else own_object FieldEnd
+
+abbrev own_so : List ℕ → Own
+own_so name =
+    if eqb (head_of name) 112 then own_p (head_of (tail_of name))
+    else if eqb (head_of name) 114 then own_thing Row
+    else if eqb (head_of name) 99 then own_thing Cell
+    else if eqb (head_of name) 101 then own_object EndnoteReference
+    else if eqb (head_of name) 115 then own_s (head_of (tail_of name))
+    else if eqb (head_of (tail_of name)) 111 then own_object FootnoteReference
+    else own_field (sixth (tail_of name))
+
+own_back : (o : Own) → own_so (own_name o) ≡ o
+own_back (own_thing Paragraph) = refl
+own_back (own_thing Row) = refl
+own_back (own_thing Cell) = refl
+own_back (own_object Picture) = refl
+own_back (own_object FootnoteReference) = refl
+own_back (own_object EndnoteReference) = refl
+own_back (own_object Symbol) = refl
+own_back (own_object PlaceTab) = refl
+own_back (own_object SoftHyphen) = refl
+own_back (own_object FieldBegin) = refl
+own_back (own_object FieldSeparate) = refl
+own_back (own_object FieldEnd) = refl
+
+own_front : (o : Own) (X : List ℕ) → front (is_not 10) (own_name o ++ (10 ∷ X)) ≡ own_name o
+own_front (own_thing Paragraph) X = refl
+own_front (own_thing Row) X = refl
+own_front (own_thing Cell) X = refl
+own_front (own_object Picture) X = refl
+own_front (own_object FootnoteReference) X = refl
+own_front (own_object EndnoteReference) X = refl
+own_front (own_object Symbol) X = refl
+own_front (own_object PlaceTab) X = refl
+own_front (own_object SoftHyphen) X = refl
+own_front (own_object FieldBegin) X = refl
+own_front (own_object FieldSeparate) X = refl
+own_front (own_object FieldEnd) X = refl
+
+pub own_split : (o p : Own) (X Y : List ℕ) → own_name o ++ (10 ∷ X) ≡ own_name p ++ (10 ∷ Y) → (o ≡ p) × (X ≡ Y)
+own_split o p X Y h = name_split 10 own_name own_so o p (own_back o) (own_back p) (own_front o) (own_front p) X Y h
+
+-- ---- stories
 
 abbrev story_so : List ℕ → Story
 story_so name =
@@ -78,9 +126,6 @@ story_split s z X Y h = name_split 10 story_name story_so s z (story_back s) (st
 
 abbrev trace_so : ℕ → Trace
 trace_so b = if eqb b 105 then Ins else if eqb b 100 then Del else if eqb b 102 then From else To
-
-abbrev sixth : List ℕ → ℕ
-sixth name = fifth (tail_of name)
 
 abbrev kind_so : List ℕ → Kind
 kind_so name =

@@ -1,11 +1,7 @@
--- Texts and names can be told from what follows them.
-use Rattle.std.proofs.Common.{◌≡◌, ℕ, List, [], ◌∷◌, ◌++◌, Bool, true, false, not, refl, sym, ap, ◌∙◌, append_assoc, eqb, if◌then◌else◌, arith}
+-- Characters and texts can be told from what follows them.
+use Rattle.std.proofs.Common.{◌≡◌, ℕ, List, [], ◌∷◌, ◌++◌, Bool, true, false, refl, sym, ap, ◌∙◌, append_assoc, eqb, if◌then◌else◌, arith}
 use Rattle.std.proofs.lemmas.Bool.{eqb-true, eqb-false}
-use Rattle.redl_reading.specs.Lists.{front}
-use Rattle.redl_bare.specs.declared.object.Object.{Object}
-use Rattle.redl_bare.specs.declared.object.Object.TheVariants.{Picture, FootnoteReference, EndnoteReference, Symbol, PlaceTab, SoftHyphen, FieldBegin, FieldSeparate, FieldEnd}
-use Rattle.redl_bare.specs.Units.{Text, byte, object}
-use Rattle.redl_bare.specs.BareText.{byte_escaped, escaped, object_name, text_body}
+use Rattle.redl_bare.specs.BareText.{byte_escaped, escaped}
 
 abbrev pub head_of : List ℕ → ℕ
 head_of [] = 0
@@ -94,75 +90,3 @@ before_tab xs ys X Y h = field_split 9 byte_no_tab xs ys X Y h
 
 pub before_line : (xs ys X Y : List ℕ) → escaped xs ++ (10 ∷ X) ≡ escaped ys ++ (10 ∷ Y) → (xs ≡ ys) × (X ≡ Y)
 before_line xs ys X Y h = field_split 10 byte_no_line xs ys X Y h
-
--- ---- an object
-
-abbrev not_end : ℕ → Bool
-not_end b = not (eqb b 93)
-
-object_front : (o : Object) (X : List ℕ) → front not_end (object_name o ++ (93 ∷ X)) ≡ object_name o
-object_front Picture X = refl
-object_front FootnoteReference X = refl
-object_front EndnoteReference X = refl
-object_front Symbol X = refl
-object_front PlaceTab X = refl
-object_front SoftHyphen X = refl
-object_front FieldBegin X = refl
-object_front FieldSeparate X = refl
-object_front FieldEnd X = refl
-
-abbrev field_so : ℕ → Object
-field_so b = if eqb b 98 then FieldBegin else if eqb b 115 then FieldSeparate else FieldEnd
-
--- the object whose name begins so
-abbrev named_so : List ℕ → Object
-named_so name =
-    if eqb (head_of name) 112 then (if eqb (head_of (tail_of name)) 105 then Picture else PlaceTab)
-    else if eqb (head_of name) 101 then EndnoteReference
-    else if eqb (head_of name) 115 then (if eqb (head_of (tail_of name)) 121 then Symbol else SoftHyphen)
-    else if eqb (head_of (tail_of name)) 111 then FootnoteReference
-    else field_so (head_of (tail_of (tail_of (tail_of (tail_of (tail_of (tail_of name)))))))
-
-named_back : (o : Object) → named_so (object_name o) ≡ o
-named_back Picture = refl
-named_back FootnoteReference = refl
-named_back EndnoteReference = refl
-named_back Symbol = refl
-named_back PlaceTab = refl
-named_back SoftHyphen = refl
-named_back FieldBegin = refl
-named_back FieldSeparate = refl
-named_back FieldEnd = refl
-
-object_same : (o p : Object) (X Y : List ℕ) → object_name o ++ (93 ∷ X) ≡ object_name p ++ (93 ∷ Y) → o ≡ p
-object_same o p X Y h =
-    sym (named_back o) ∙ ap named_so (sym (object_front o X) ∙ ap (front not_end) h ∙ object_front p Y) ∙ named_back p
-
-pub object_split : (o p : Object) (X Y : List ℕ) → object_name o ++ (93 ∷ X) ≡ object_name p ++ (93 ∷ Y) → (o ≡ p) × (X ≡ Y)
-object_split o p X Y h =
-    let same = object_same o p X Y h in
-    (same, ap tail_of (cancel (object_name p) (93 ∷ X) (93 ∷ Y) (ap (λ q. object_name q ++ (93 ∷ X)) (sym same) ∙ h)))
-
--- ---- a text
-
-object_text : (o : Object) (X : List ℕ) → text_body (object o) ++ X ≡ 92 ∷ 91 ∷ (object_name o ++ (93 ∷ X))
-object_text o X = ap (λ l. 92 ∷ 91 ∷ l) (append_assoc (object_name o) (93 ∷ []) X)
-
-byte_no_object : (b : ℕ) (X Y : List ℕ) → byte_escaped b ++ X ≡ 92 ∷ 91 ∷ Y → ⊥
-byte_no_object b X Y h = at (shape_of b)
-  where
-    at : Shape b → ⊥
-    at (signed l e p q) = q (ap (λ s. head_of (tail_of s)) (written b (92 ∷ l ∷ []) X (92 ∷ 91 ∷ Y) e h))
-    at (itself e p q r) = p (ap head_of (written b (b ∷ []) X (92 ∷ 91 ∷ Y) e h))
-
-pub text_split : (t u : Text) (X Y : List ℕ) → text_body t ++ X ≡ text_body u ++ Y → (t ≡ u) × (X ≡ Y)
-text_split (byte a) (byte b) X Y h = let s = byte_split a b X Y h in (ap byte s.0, s.1)
-text_split (byte a) (object p) X Y h = absurd (byte_no_object a X (object_name p ++ (93 ∷ Y)) (h ∙ object_text p Y))
-text_split (object o) (byte b) X Y h = absurd (byte_no_object b Y (object_name o ++ (93 ∷ X)) (sym h ∙ object_text o X))
-text_split (object o) (object p) X Y h =
-    let s = object_split o p X Y (ap (λ l. tail_of (tail_of l)) (sym (object_text o X) ∙ h ∙ object_text p Y)) in
-    (ap object s.0, s.1)
-
-pub text_no_line : (t : Text) (X Y : List ℕ) → text_body t ++ X ≡ 10 ∷ Y → ⊥
-text_no_line (byte b) X Y h = byte_no_line b X Y h
-text_no_line (object o) X Y h = eqb-false 92 10 refl (ap head_of h)

@@ -14,7 +14,7 @@ after_texts f (t ∷ ts) = after_texts (after_text f t) ts
 abbrev pub is_silent : Fields → Bool
 is_silent f = not (f.silent == 0)
 
--- the texts that an element shows in its line
+-- the texts that an element shows
 abbrev pub short_of : Short → List Text
 short_of Nothing = []
 short_of (Characters b) = map byte b.now

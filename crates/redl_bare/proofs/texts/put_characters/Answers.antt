@@ -1,12 +1,11 @@
-use Rattle.std.proofs.Common.{false, true, map, sym, ap, refl, ◌∙◌}
+use Rattle.std.proofs.Common.{map, sym, ap, refl, ◌∙◌}
 use Rattle.redl_bare.specs.Units.{byte, in_marks}
 use Rattle.redl_bare.specs.Fields.{uncounted}
-use Rattle.redl_bare.specs.BareText.{escaped}
 use Rattle.redl_bare.specs.Inside.Texts.{is_silent}
 use Rattle.redl_bare.specs.Inside.Views.{fields_view, marks_view}
 use Rattle.redl_bare.proofs.FieldLaws.{silent_after, characters_stay, characters_go}
-use Rattle.redl_bare.proofs.TextLaws.{bytes_body, bytes_empty, none_by_length, some_by_length}
-use Rattle.redl_bare.proofs.TextPuts.{texts_put, begin_fails, texts_go}
+use Rattle.redl_bare.proofs.TextLaws.{none_by_length, some_by_length}
+use Rattle.redl_bare.proofs.TextPuts.{characters_put, begin_fails, texts_go}
 use Rattle.redl_bare.proofs.texts.put_characters.Goals as goal
 
 pub returns-then-is_empty : goal.returns-then-is_empty
@@ -26,15 +25,15 @@ pub returns-in_err-begin : goal.returns-in_err-begin
 returns-in_err-begin g c =
     let b = c.args.bytes.now in
     let f = fields_view c.args.writer.now.fields in
-    let some = bytes_empty b ∙ some_by_length b c.is_empty.result c.is_empty.ensures c.if-is_empty.false in
+    let some = some_by_length b c.is_empty.result c.is_empty.ensures c.if-is_empty.false in
     let heard = sym (silent_after f b) ∙ ap is_silent (sym c.read.ensures) ∙ sym c.are_silent.ensures ∙ c.if-are_silent.false in
-    begin_fails c.args.writer.now (map byte b) some (characters_stay (marks_view c.args.writer.now.marks) f b heard) _ _ c.from_residual.ensures.1 c.in_err-begin.ensures.puts
+    begin_fails c.args.writer.now b some (characters_stay (marks_view c.args.writer.now.marks) f b heard) _ _ c.from_residual.ensures.1 c.in_err-begin.ensures.puts
 
 pub returns : goal.returns
 returns g c =
     let b = c.args.bytes.now in
     let f = fields_view c.args.writer.now.fields in
-    let some = bytes_empty b ∙ some_by_length b c.is_empty.result c.is_empty.ensures c.if-is_empty.false in
+    let some = some_by_length b c.is_empty.result c.is_empty.ensures c.if-is_empty.false in
     let heard = sym (silent_after f b) ∙ ap is_silent (sym c.read.ensures) ∙ sym c.are_silent.ensures ∙ c.if-are_silent.false in
-    texts_put c.args.writer.now (map byte b) some (characters_stay (marks_view c.args.writer.now.marks) f b heard) c.begin.new.writer _ (escaped b) c.put_escaped.result (sym (bytes_body b))
+    characters_put c.args.writer.now b some (characters_stay (marks_view c.args.writer.now.marks) f b heard) c.begin.new.writer _ c.put_escaped.result
     c.in_ok-begin.ensures.puts c.put_escaped.ensures c.in_ok-begin.ensures.after (ap fields_view c.in_ok-begin.ensures.fields ∙ c.read.ensures) c.in_ok-begin.ensures.marks
