@@ -1,5 +1,6 @@
 mod Rows
 pub mod LineLaws
+pub mod CleanLaws
 pub mod TextLaws
 pub mod FieldLaws
 pub mod TextPuts

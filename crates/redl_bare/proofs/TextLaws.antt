@@ -1,6 +1,9 @@
 -- Characters with equal marks are one line.
-use Rattle.std.proofs.Common.{◌≡◌, ℕ, List, [], ◌∷◌, ◌++◌, map, length, ◌≤◌, ◌<◌, arith, Bool, true, false, ◌&&◌, ◌||◌, not, codes, bytes_eq, Option, Some, refl, sym, ap, ◌∙◌, append_assoc, eqb, if◌then◌else◌}
-use Rattle.std.proofs.lemmas.Bool.{and_from, eqb-true}
+use Rattle.std.proofs.Common.{◌≡◌, ◌≢◌, ℕ, List, [], ◌∷◌, ◌++◌, map, length, ◌≤◌, ◌<◌, arith, Bool, true, false, ◌&&◌, ◌||◌, not, codes, bytes_eq, Option, Some, refl, sym, ap, ◌∙◌, append_assoc, eqb, if◌then◌else◌}
+use Rattle.std.proofs.lemmas.Bool.{and_from, and_parts, eqb-true, ne_eqb}
+use Rattle.std.proofs.lemmas.Bool.Decides.{nat_tests}
+use Rattle.std.specs.List.{list_all}
+use Rattle.redl_shown.specs.Shown.{shown}
 use Rattle.std.proofs.lemmas.List.{nil_from_length}
 use Rattle.std.proofs.lemmas.List.Concat.{flat_map-append}
 use Rattle.std.proofs.lemmas.Slice.Eq.{bytes_eq-Decides}
@@ -10,7 +13,7 @@ use Rattle.redl_bare.specs.Units.{byte, in_marks}
 use Rattle.redl_bare.specs.BareText.{byte_escaped, escaped, goes_on, begun, closing, marks_text, text_begin, lines, line_after_all}
 use Rattle.redl_marks.specs.declared.sign.Sign.{Sign}
 use Rattle.redl_marks.specs.declared.sign.Sign.TheVariants.{Inserted, Deleted, MovedTo, MovedFrom, Formatted}
-use Rattle.redl_bare.specs.Inside.Escapes.{is_plain, is_empty}
+use Rattle.redl_bare.specs.Inside.Escapes.{is_plain, is_clean, is_empty}
 
 -- ---- marks are the same as themselves
 
@@ -103,6 +106,33 @@ escaped-step left b bs rest e r =
 -- a text that begins with a piece
 pub escaped-piece : (whole piece rest : List ℕ) → whole ≡ piece ++ rest → escaped whole ≡ escaped piece ++ escaped rest
 escaped-piece whole piece rest e = ap escaped e ∙ escaped-append piece rest
+
+-- ---- bytes that show themselves and are written as they are
+
+clean_parts : (b : ℕ) → is_clean b ≡ true → (is_plain b ≡ true) × (eqb b 60 ≡ false) × (eqb b 38 ≡ false)
+clean_parts b h =
+    let low : 14 ≤ b = grind (arith, nat_tests, h) in
+    let amp : b ≢ 38 = grind (arith, nat_tests, h) in
+    let less : b ≢ 60 = grind (arith, nat_tests, h) in
+    let slash : b ≢ 92 = grind (arith, nat_tests, h) in
+    let plain : is_plain b ≡ true = rw (ne_eqb b 92 slash, ne_eqb b 9 (λ e. omega (arith, e, low)), ne_eqb b 10 (λ e. omega (arith, e, low)), ne_eqb b 13 (λ e. omega (arith, e, low))) refl in
+    (plain, ne_eqb b 60 less, ne_eqb b 38 amp)
+
+pub clean_escaped : (bs : List ℕ) → list_all is_clean bs ≡ true → escaped bs ≡ bs
+clean_escaped [] h = refl
+clean_escaped (b ∷ bs) h =
+    let both = and_parts (is_clean b) (list_all is_clean bs) h in
+    ap (λ l. l ++ escaped bs) (byte_plain b (clean_parts b both.0).0) ∙ ap (λ l. b ∷ l) (clean_escaped bs both.1)
+
+byte_shown : (b : ℕ) (bs : List ℕ) → eqb b 60 ≡ false → eqb b 38 ≡ false → shown (b ∷ bs) ≡ b ∷ shown bs
+byte_shown b bs e f = simp (e, f)
+
+pub clean_shown : (bs : List ℕ) → list_all is_clean bs ≡ true → shown bs ≡ bs
+clean_shown [] h = refl
+clean_shown (b ∷ bs) h =
+    let both = and_parts (is_clean b) (list_all is_clean bs) h in
+    let parts = clean_parts b both.0 in
+    byte_shown b bs parts.1 parts.2 ∙ ap (λ l. b ∷ l) (clean_shown bs both.1)
 
 -- ---- the line of a member
 

@@ -1,12 +1,12 @@
 -- The walk goes over a list node by node.
-use Rattle.std.proofs.Common.{◌≡◌, ℕ, List, [], ◌++◌, codes, Bool, true, false, Some, None, refl, sym, ap, ◌∙◌, append_assoc, if◌then◌else◌}
+use Rattle.std.proofs.Common.{◌≡◌, ℕ, List, ◌++◌, codes, Bool, true, false, Some, None, refl, sym, ap, ◌∙◌, append_assoc, if◌then◌else◌}
 use Rattle.redl_reading.specs.Steps.{or_else}
 use Rattle.redl_tree.specs.Model.Nodes.{Tag, Nodes, no_nodes, bytes, element, Item, bytes_item, element_item, idle_item, in_front, ◌⊕◌}
 use Rattle.redl_tree.specs.Model.IdleTexts.{idle_nodes}
 use Rattle.redl_bare.specs.Marks.{Stamp, Marks, stamp_in, value_in, is_run_change, change_in, run_change, marks_inside}
 use Rattle.redl_tree.specs.Roles.Names.{is}
-use Rattle.redl_bare.specs.Units.{field_texts, short_texts, start_texts, in_marks, byte_texts, place_inside, units_in}
-use Rattle.redl_bare.specs.Inside.Items.{held_units, element_units, item_units, item_change_in, item_change}
+use Rattle.redl_bare.specs.Units.{field_texts, short_texts, start_texts, in_marks, byte_texts, start_units, place_inside, units_in}
+use Rattle.redl_bare.specs.Inside.Items.{held_at, ends_at, element_units, item_units, item_change_in, item_change}
 use Rattle.redl_bare.specs.declared.place.BarePlace.{BarePlace}
 use Rattle.redl_marks.specs.declared.marks.Marks as code_marks
 use Rattle.redl_bare.proofs.IdleLaws.{change_in_idle, run_change_idle}
@@ -25,11 +25,15 @@ units-in_front place marks (bytes_item b) rest = refl
 units-in_front place marks (element_item tag kids) rest = refl
 units-in_front place marks (idle_item t) rest = units-⊕ place marks (idle_nodes t) rest
 
--- the units of what an element holds, with its kids, their place and their marks as the code has them
-pub held_read : (place inner : BarePlace) (marks inside : Marks) (tag : Tag) (kids read : Nodes) → inner ≡ place_inside place tag → inside ≡ marks_inside marks tag kids → read ≡ kids
-    → held_units place marks tag kids ≡ units_in inner inside read
-held_read place inner marks inside tag kids read e f g =
-    ap (λ p. units_in p (marks_inside marks tag kids) kids) (sym e) ∙ ap (λ m. units_in inner m kids) (sym f) ∙ ap (units_in inner inside) (sym g)
+-- the units of what an element holds, with its kids and their marks as the code has them
+pub held_read : (inside : BarePlace) (marks inner : Marks) (tag : Tag) (kids read : Nodes) → inner ≡ marks_inside marks tag kids → read ≡ kids
+    → held_at inside marks tag kids ≡ units_in inside inner read
+held_read inside marks inner tag kids read f g = ap (λ m. units_in inside m kids) (sym f) ∙ ap (units_in inside inner) (sym g)
+
+-- the units of an element, with the place of what it holds as the code has it
+pub element_at : (place inside : BarePlace) (marks : Marks) (tag : Tag) (kids : Nodes) → inside ≡ place_inside place tag
+    → element_units place marks tag kids ≡ start_units place marks tag ++ (held_at inside marks tag kids ++ ends_at inside place marks tag)
+element_at place inside marks tag kids e = ap (λ p. start_units place marks tag ++ (held_at p marks tag kids ++ ends_at p place marks tag)) (sym e)
 
 -- marks are told by their list
 pub marks_by_items : (m k : code_marks.Marks) → m.list.items ≡ k.list.items → m ≡ k

@@ -8,12 +8,23 @@ ghost use Rattle.redl_shown.specs.Shown.{shown};
 ghost use Rattle.redl_bare.specs.BareText.{byte_escaped, escaped};
 ghost use Rattle.redl_bare.specs.Inside.Escapes.{is_plain};
 
+use crate::clean::are_clean;
 use redl_io::{Failed, Sink, put_piece};
 use redl_reading::run;
 use redl_shown::{ShownPiece, next_shown, start};
 
 /// Puts a text with its backslashes, tabs, newlines and carriage returns escaped. It takes no memory.
 pub(crate) fn put_escaped<K: Sink>(text: &[u8], out: &mut K) -> Result<(), Failed>
+    ensures { Puts K.told K.faults K.settled K.lenders out.old out.new (escaped text.now) result }
+{
+    if are_clean(text) {
+        return put_piece(text, out);
+    }
+    put_mixed(text, out)
+}
+
+// The same of a text that may have such bytes.
+fn put_mixed<K: Sink>(text: &[u8], out: &mut K) -> Result<(), Failed>
     ensures { Puts K.told K.faults K.settled K.lenders out.old out.new (escaped text.now) result }
 {
     let mut left = text;
@@ -54,6 +65,16 @@ fn put_byte<K: Sink>(byte: u8, out: &mut K) -> Result<(), Failed>
 
 /// Puts what bytes of a document show, escaped. It takes no memory.
 pub(crate) fn put_shown<K: Sink>(bytes: &[u8], out: &mut K) -> Result<(), Failed>
+    ensures { Puts K.told K.faults K.settled K.lenders out.old out.new (escaped (shown bytes.now)) result }
+{
+    if are_clean(bytes) {
+        return put_piece(bytes, out);
+    }
+    put_read(bytes, out)
+}
+
+// The same of bytes that may have references, or other bytes that are not written as they are.
+fn put_read<K: Sink>(bytes: &[u8], out: &mut K) -> Result<(), Failed>
     ensures { Puts K.told K.faults K.settled K.lenders out.old out.new (escaped (shown bytes.now)) result }
 {
     let mut here = start();

@@ -8,6 +8,7 @@
 //! Its tests are whole calls, in the rows of `redl_rows`.
 #![tactic(auto)]
 
+mod clean;
 mod escape;
 mod fields;
 mod idle;

@@ -8,6 +8,7 @@ ghost use Rattle.redl_bare.specs.Inside.Puts.{PutsUnits};
 ghost use Rattle.redl_bare.specs.Inside.Texts.{short_of};
 ghost use Rattle.redl_bare.specs.Inside.Views.{marks_view};
 
+use crate::clean::are_clean;
 use crate::escape::put_escaped;
 use crate::line::{begin, put_named};
 use crate::object::Object;
@@ -21,6 +22,16 @@ pub(crate) fn put_shown_texts<'a, K: Sink>(
     bytes: &[u8],
     writer: &mut Writer<'a, K>,
 ) -> Result<(), Failed>
+    ensures { PutsUnits K.told K.faults K.settled K.lenders writer.old writer.new (in_marks (marks_view writer.old.marks) (map byte (shown bytes.now))) result }
+{
+    if are_clean(bytes) {
+        return put_characters(bytes, writer);
+    }
+    put_read_texts(bytes, writer)
+}
+
+// The same of bytes that may have references, or other bytes that do not show themselves.
+fn put_read_texts<'a, K: Sink>(bytes: &[u8], writer: &mut Writer<'a, K>) -> Result<(), Failed>
     ensures { PutsUnits K.told K.faults K.settled K.lenders writer.old writer.new (in_marks (marks_view writer.old.marks) (map byte (shown bytes.now))) result }
 {
     let mut here = start();

@@ -2,8 +2,8 @@
 
 ghost use Rattle.std.specs.Prelude.{◌≡◌};
 ghost use Rattle.redl_tree.specs.Model.View.{nodes_of, item_of, tag_of, kids_of};
-ghost use Rattle.redl_bare.specs.Units.{in_marks, byte_texts, start_texts, short_texts, start_things, member_units, open_units, start_units, end_things, end_units, units_in};
-ghost use Rattle.redl_bare.specs.Inside.Items.{held_units, element_units, item_units};
+ghost use Rattle.redl_bare.specs.Units.{in_marks, byte_texts, start_texts, short_texts, start_things, member_units, open_units, start_units, end_things, units_in};
+ghost use Rattle.redl_bare.specs.Inside.Items.{held_at, ends_at, element_units, item_units};
 ghost use Rattle.redl_bare.specs.Inside.Puts.{PutsUnits};
 ghost use Rattle.redl_bare.specs.Inside.Texts.{short_of};
 ghost use Rattle.redl_bare.specs.Inside.Views.{marks_view};
@@ -59,22 +59,23 @@ pub(crate) fn put_elem<'a, K: Sink>(
 ) -> Result<(), Failed>
     ensures { PutsUnits K.told K.faults K.settled K.lenders writer.old writer.new (element_units place (marks_view writer.old.marks) (tag_of elem.now) (kids_of elem.now)) result }
 {
+    let inside = place.inside(elem);
     put_start(elem, place, writer)?;
-    put_held(elem, place, writer)?;
-    put_end(elem, place, writer)
+    put_held(elem, inside, writer)?;
+    put_end(elem, place, inside, writer)
 }
 
-// Puts the units of what an element holds.
+// Puts the units of what an element holds, at their place.
 #[cycle(units)]
 fn put_held<'a, K: Sink>(
     elem: &Elem<'a>,
-    place: BarePlace,
+    inside: BarePlace,
     writer: &mut Writer<'a, K>,
 ) -> Result<(), Failed>
-    ensures { PutsUnits K.told K.faults K.settled K.lenders writer.old writer.new (held_units place (marks_view writer.old.marks) (tag_of elem.now) (kids_of elem.now)) result }
+    ensures { PutsUnits K.told K.faults K.settled K.lenders writer.old writer.new (held_at inside (marks_view writer.old.marks) (tag_of elem.now) (kids_of elem.now)) result }
 {
     let came = enter(&mut writer.marks, elem);
-    put_nodes(elem.kids(), place.inside(elem), writer)?;
+    put_nodes(elem.kids(), inside, writer)?;
     writer.marks.leave(came);
     Ok(())
 }
@@ -164,15 +165,16 @@ fn put_things<'a, K: Sink>(elem: &Elem<'a>, writer: &mut Writer<'a, K>) -> Resul
     }
 }
 
-// Puts the units of an element after those that it holds.
+// Puts the units of an element after those that it holds, which are inside.
 fn put_end<'a, K: Sink>(
     elem: &Elem<'a>,
     place: BarePlace,
+    inside: BarePlace,
     writer: &mut Writer<'a, K>,
 ) -> Result<(), Failed>
-    ensures { PutsUnits K.told K.faults K.settled K.lenders writer.old writer.new (end_units place (marks_view writer.old.marks) (tag_of elem.now)) result }
+    ensures { PutsUnits K.told K.faults K.settled K.lenders writer.old writer.new (ends_at inside place (marks_view writer.old.marks) (tag_of elem.now)) result }
 {
-    put_short(end_of(place.inside(elem)), writer)?;
+    put_short(end_of(inside), writer)?;
     put_end_things(elem, place, writer)
 }
 

@@ -1,6 +1,6 @@
 -- The texts of idle elements that a list keeps as text, as one list of numbers, by which the walk over them says which they are. No
 -- revision, paragraph, row, cell or note is among them.
-use Rattle.std.specs.Prelude.{ℕ, ◌+◌, ◌-◌, ◌==◌, List, [], ◌∷◌, ◌++◌, map, codes, if◌then◌else◌}
+use Rattle.std.specs.Prelude.{ℕ, ◌+◌, ◌-◌, ◌==◌, List, [], ◌∷◌, ◌++◌, map, if◌then◌else◌}
 use Rattle.redl_tree.specs.Model.Nodes.{Tag, Nodes, no_nodes, bytes, element}
 use Rattle.redl_tree.specs.Roles.Names.{is, is_any, of_w}
 use Rattle.redl_idle.specs.Shows.{ShowRule}

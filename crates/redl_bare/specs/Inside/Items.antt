@@ -4,12 +4,18 @@ use Rattle.redl_tree.specs.Model.Nodes.{Tag, Nodes, Item, bytes_item, element_it
 use Rattle.redl_tree.specs.Model.IdleTexts.{idle_nodes}
 use Rattle.redl_tree.specs.Roles.Names.{is}
 use Rattle.redl_bare.specs.Marks.{Stamp, Marks, stamp_in, is_run_change, change_in, marks_inside}
-use Rattle.redl_bare.specs.Units.{BareUnit, in_marks, byte_texts, start_units, end_units, place_inside, units_in}
+use Rattle.redl_bare.specs.Units.{BareUnit, in_marks, byte_texts, start_units, end_texts, end_things, end_units, place_inside, units_in}
 use Rattle.redl_bare.specs.declared.place.BarePlace.{BarePlace}
 
--- the units of what an element holds
+-- the units of what an element holds at a place, and those after them
+abbrev pub held_at : BarePlace → Marks → Tag → Nodes → List BareUnit
+held_at inside marks tag kids = units_in inside (marks_inside marks tag kids) kids
+
+abbrev pub ends_at : BarePlace → BarePlace → Marks → Tag → List BareUnit
+ends_at inside place marks tag = in_marks marks (end_texts inside) ++ end_things place marks tag
+
 abbrev pub held_units : BarePlace → Marks → Tag → Nodes → List BareUnit
-held_units place marks tag kids = units_in (place_inside place tag) (marks_inside marks tag kids) kids
+held_units place marks tag kids = held_at (place_inside place tag) marks tag kids
 
 -- the units of an element
 abbrev pub element_units : BarePlace → Marks → Tag → Nodes → List BareUnit
