@@ -24,6 +24,7 @@ use redl_output::write_nodes;
 use redl_sample::SampleSummary;
 use redl_tree::Node;
 use std::alloc::{AllocError, Global};
+use std::mem;
 
 /// What goes out.
 #[derive(Drop)]
@@ -79,10 +80,15 @@ pub fn put<'a, 'b, O: Sink>(made: Result<Writing<'b>, Failure<'a>>, out: &mut O)
     ensures { Finishes O.told O.faults out.old out.new (result_view writing_view made.entry) (end_view result) }
 {
     match made {
-        Ok(Writing { output, remarks }) => match write_output(&output, out) {
-            Ok(()) => End::Written(remarks),
-            Err(_) => End::Unwritten(remarks),
-        },
+        Ok(Writing { output, remarks }) => {
+            let written = write_output(&output, out);
+            // a call ends here, and the system takes all memory back at once
+            mem::forget(output);
+            match written {
+                Ok(()) => End::Written(remarks),
+                Err(_) => End::Unwritten(remarks),
+            }
+        }
         Err(failure) => End::Failed(failure),
     }
 }

@@ -11,6 +11,7 @@ use redl_index::Surveyed;
 use redl_inputs::read_package;
 use redl_lines::{Failure, Remarks};
 use std::alloc::{AllocError, Global};
+use std::mem;
 
 /// That the package with this text is sound, how many revisions it has, and a note of the marks in it that are never decided.
 pub fn check_package<'a, 'b>(alloc: Global, bytes: &'b [u8]) -> Result<Writing<'b>, Failure<'a>>
@@ -26,8 +27,11 @@ fn count_revisions(alloc: Global, pkg: Surveyed) -> Result<Writing, AllocError>
     let counted = pkg.into_counted();
     let mut remarks = Remarks::none(alloc);
     note_marks(&mut remarks, counted.pkg.nodes())?;
+    let count = counted.count;
+    // a call ends after this, and the system takes all memory back at once
+    mem::forget(counted);
     Ok(Writing {
-        output: Output::Count(counted.count),
+        output: Output::Count(count),
         remarks,
     })
 }
