@@ -1,6 +1,6 @@
 //! Items: what comes after the name of a package, in any order.
 
-ghost use Rattle.std.specs.Prelude.{◌≡◌, ◌≤◌, ◌∷◌, All, IfOk, IsUtf8, length};
+ghost use Rattle.std.specs.Prelude.{◌≡◌, ◌≤◌, ◌∷◌, All, IfErr, IfOk, IsUtf8, length};
 ghost use Rattle.redl_words.specs.Reading.Answers.{Finds};
 ghost use Rattle.redl_words.specs.Reading.Items.{Goes, gathered, items_view, nothing, with_option, with_plain_journal, with_word};
 
@@ -89,7 +89,8 @@ impl Items {
     // Sets that it goes by kind, which may come once.
     #[tactic(auto, unfolding(crate::specs::Reading::Items::with_option))]
     fn set_by(&mut self, value: &Text) -> Result<(), WordsError>
-        ensures { Finds (λ _. items_view self.new) result (with_option ItemOption.By value.now (items_view self.old)) }
+        ensures found { Finds (λ _. items_view self.new) result (with_option ItemOption.By value.now (items_view self.old)) }
+        ensures cause { IfErr result (λ error. error ≡ WordsError.Usage) }
     {
         if self.by_kind || value.as_bytes() != b"kind".as_slice() {
             return Err(WordsError::Usage);
@@ -113,7 +114,8 @@ impl Items {
     // Sets the rank, which may come once.
     #[tactic(auto, unfolding(crate::specs::Reading::Items::with_option))]
     fn set_rank(&mut self, digits: &Text) -> Result<(), WordsError>
-        ensures { Finds (λ _. items_view self.new) result (with_option ItemOption.Rank digits.now (items_view self.old)) }
+        ensures found { Finds (λ _. items_view self.new) result (with_option ItemOption.Rank digits.now (items_view self.old)) }
+        ensures cause { IfErr result (λ error. error ≡ WordsError.Usage) }
     {
         if self.rank.is_some() {
             return Err(WordsError::Usage);

@@ -1,6 +1,6 @@
 //! The texts of locks.
 
-ghost use Rattle.std.specs.Prelude.{◌≡◌};
+ghost use Rattle.std.specs.Prelude.{◌≡◌, IfErr};
 ghost use Rattle.redl_words.specs.Reading.Answers.{Finds};
 ghost use Rattle.redl_words.specs.Reading.Locks.{lock_in, kind_lock_in, span_lock_in};
 
@@ -25,7 +25,8 @@ pub(crate) fn read_lock(alloc: Global, on: Locked, text: &str) -> Result<Lock, W
 
 // The lock on the kind with this name.
 fn read_kind_lock(name: &str) -> Result<Lock, WordsError>
-    ensures { Finds (λ lock. lock) result (kind_lock_in name.now) }
+    ensures found { Finds (λ lock. lock) result (kind_lock_in name.now) }
+    ensures cause { IfErr result (λ error. error ≡ WordsError.Usage) }
 {
     match read_kind_name(name) {
         Some(kind) => Ok(Lock::Kind(kind)),
@@ -35,7 +36,8 @@ fn read_kind_lock(name: &str) -> Result<Lock, WordsError>
 
 // The lock on the span between two dates with a slash between.
 fn read_span_lock(text: &str) -> Result<Lock, WordsError>
-    ensures { Finds (λ lock. lock) result (span_lock_in text.now) }
+    ensures found { Finds (λ lock. lock) result (span_lock_in text.now) }
+    ensures cause { IfErr result (λ error. error ≡ WordsError.Usage) }
 {
     match read_moments(text) {
         Some((start, end)) => Ok(Lock::Span(start, end)),

@@ -1,6 +1,6 @@
 //! Reading the words of a command line.
 
-ghost use Rattle.std.specs.Prelude.{◌≡◌, All, IfOk, IsErrOf, IsUtf8};
+ghost use Rattle.std.specs.Prelude.{◌≡◌, All, IfErr, IfOk, IsErrOf, IsUtf8};
 ghost use Rattle.redl_words.specs.Commands.{HasNoCommand, HasUtf8, IsCommand};
 ghost use Rattle.redl_words.specs.Reading.Answers.{Finds};
 ghost use Rattle.redl_words.specs.Reading.Commands.{asked_in, asked_view, check_in, command_in, decide_in, format_or_text, rank_or_0, join_in, form_in, left_in, list_in, report_in, page_in, resume_in, sample_in, say_in, settle_in, text_in, text_with, view_in, write_in};
@@ -375,7 +375,8 @@ fn read_check(alloc: Global, words: &[Text]) -> Result<Command, WordsError>
 // The words after `sample`.
 #[tactic(auto, unfolding(crate::specs::Reading::Commands::sample_in))]
 fn read_sample(words: &[Text]) -> Result<Command, WordsError>
-    ensures { Finds command_of result (sample_in words.now) }
+    ensures found { Finds command_of result (sample_in words.now) }
+    ensures cause { IfErr result (λ error. error ≡ WordsError.Usage) }
 {
     let [digits] = words else {
         return Err(WordsError::Usage);

@@ -1,6 +1,6 @@
 //! The texts of selections.
 
-ghost use Rattle.std.specs.Prelude.{◌≡◌, option_map};
+ghost use Rattle.std.specs.Prelude.{◌≡◌, IfErr, option_map};
 ghost use Rattle.redl_reading.specs.Steps.{Gives};
 ghost use Rattle.redl_reading.specs.Lists.{field_at};
 ghost use Rattle.redl_kinds.specs.KindNames.{kind_named};
@@ -45,7 +45,8 @@ fn split_dates(text: &str) -> Option<(&str, &str)>
 
 // The selection without a label.
 fn read_unlabelled(text: &str) -> Result<Selection, WordsError>
-    ensures { Finds selection_of result (unlabelled text.now) }
+    ensures found { Finds selection_of result (unlabelled text.now) }
+    ensures cause { IfErr result (λ error. error ≡ WordsError.Usage) }
 {
     if text.as_bytes() == b"all".as_slice() {
         Ok(Selection::All)
@@ -139,7 +140,8 @@ pub(crate) fn read_kind_name(name: &str) -> Option<RevKind>
 
 // The revisions of the kind, or of the kinds of the group, with this name.
 fn read_kind(name: &str) -> Result<Selection, WordsError>
-    ensures { Finds selection_of result (kinds_in name.now) }
+    ensures found { Finds selection_of result (kinds_in name.now) }
+    ensures cause { IfErr result (λ error. error ≡ WordsError.Usage) }
 {
     match read_kind_name(name) {
         Some(kind) => Ok(Selection::Kind(kind)),
@@ -149,7 +151,8 @@ fn read_kind(name: &str) -> Result<Selection, WordsError>
 
 // The revisions of the kinds of the group with this name.
 fn read_group(name: &str) -> Result<Selection, WordsError>
-    ensures { Finds selection_of result (option_map group (group_named name.now)) }
+    ensures found { Finds selection_of result (option_map group (group_named name.now)) }
+    ensures cause { IfErr result (λ error. error ≡ WordsError.Usage) }
 {
     match read_group_name(name.as_bytes()) {
         Some(group) => Ok(Selection::Group(group)),
@@ -179,7 +182,8 @@ fn read_group_name(name: &[u8]) -> Option<Group>
 
 // The span between two dates with a slash between.
 fn read_span(text: &str) -> Result<Selection, WordsError>
-    ensures { Finds selection_of result (span_in text.now) }
+    ensures found { Finds selection_of result (span_in text.now) }
+    ensures cause { IfErr result (λ error. error ≡ WordsError.Usage) }
 {
     match read_moments(text) {
         Some((start, end)) => Ok(Selection::Span(start, end)),
