@@ -4,4 +4,5 @@ mod Words
 mod Lines
 mod Steps
 pub mod Functions
+pub mod Signs
 pub mod Calls

@@ -6,4 +6,4 @@
 
 mod laws;
 
-pub use laws::calls_are_worked_out;
+pub use laws::{calls_are_worked_out, signs_say_their_kinds};
