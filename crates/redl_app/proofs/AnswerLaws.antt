@@ -33,7 +33,8 @@ pub answers_without_memory : {F O E : Type 0} (held : F → Option Files) (misse
     → Answers held misses noted shelf shelf told faults out out lines_told line_faults err err_new words brought status.NoMemory
 answers_without_memory held misses noted shelf told faults out lines_told line_faults err err_new words brought tells = record {
   status = λ files reader reads may. tt;
-  usage = λ none. inr refl;
+  usage = λ misused. inr refl;
+  only_usage = λ e. absurd (cc e);
   read = λ e. absurd (cc e);
   write = λ e. absurd (cc e);
   asked = λ command reads. record { front = []; later = files_of brought (plan command); prefix = refl; asked = ask_more-nothing (noted shelf); ends = tt };

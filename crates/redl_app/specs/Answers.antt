@@ -1,6 +1,6 @@
 -- What a call with words that ask for files comes to (our own rule).
 use Rattle.std.specs.Prelude.{◌≡◌, ◌≢◌, ◌⊎◌, ℕ, List, Option}
-use Rattle.redl_outcome.specs.Answers.{AreLines, Asks, IsAnswer, MayFault, OfOutcome, TellsSome, Writes as WritesBytes}
+use Rattle.redl_outcome.specs.Answers.{AreLines, AreMisused, Asks, IsAnswer, MayFault, OfOutcome, TellsSome, Writes as WritesBytes}
 use Rattle.redl_outcome.specs.Brought.{Brought}
 use Rattle.redl_outcome.specs.Files.{files_of}
 use Rattle.redl_outcome.specs.Left.{Leaves}
@@ -22,7 +22,8 @@ pub record Answers {F O E : Type 0}
   -- where the shelf tells, or the words ask for no file, the status is the outcome's, but for what the outside forces
   pub status : OfOutcome (held shelf) words brought (λ outcome. IsAnswer ended outcome (Rose (misses shelf) (misses shelf_new)) (Rose (faults out) (faults out_new)))
   -- over every shelf
-  pub usage : HasNoCommand words → (ended ≡ Usage) ⊎ (ended ≡ NoMemory)
+  pub usage : AreMisused words brought → (ended ≡ Usage) ⊎ (ended ≡ NoMemory)
+  pub only_usage : ended ≡ Usage → AreMisused words brought
   pub read : ended ≡ ReadFault → MayFault words brought (held shelf) (Rose (misses shelf) (misses shelf_new))
   pub write : ended ≡ WriteFault → Rose (faults out) (faults out_new)
   -- A command asks for the first ones of its files, in their order, each once: for all of them where its output was put. Other words ask for none.

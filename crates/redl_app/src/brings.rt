@@ -9,6 +9,7 @@ ghost use Rattle.redl_commands_shown.specs.Report.{reported};
 ghost use Rattle.redl_formats.specs.Formats.{without_named};
 ghost use Rattle.redl_inputs.specs.Reading.{ReadsFiles};
 ghost use Rattle.redl_inputs.specs.Views.{result_view};
+ghost use Rattle.redl_lines.specs.Failures.{asked_view};
 ghost use Rattle.redl_outcome.specs.Brought.{Brought, brought_by};
 ghost use Rattle.redl_outcome.specs.Plans.{has_asked, plan};
 ghost use Rattle.redl_page.specs.PageViews.{skin_view};
@@ -20,7 +21,7 @@ use crate::plan::{format, report};
 use redl_commands::Writing;
 use redl_commands_list::{list_package, report_package};
 use redl_io::Shelf;
-use redl_lines::Failure;
+use redl_lines::{Failure, Misuse};
 use redl_listing::RowFormat;
 use redl_page::Skin;
 use redl_report::ReportFormat;
@@ -52,11 +53,11 @@ pub(crate) trait Brings {
     ghost is_fresh: { Self → Type 0 };
 
     /// Whether there is the format that the command asks for, if it asks for one.
-    fn check<'a>(&self, command: &'a Command) -> Result<(), Failure<'a>>
+    fn check<'a>(&self, command: &'a Command) -> Result<(), Misuse<'a>>
         requires { HasUtf8 (command_of command.now) }
         ensures there { IsOk result → (has_format (brought self.now).formats (plan (command_of command.now)).format ≡ Ok tt)
             × (has_format (brought self.now).reports (plan (command_of command.now)).report ≡ Ok tt) }
-        ensures asked { result_view (λ _. tt) result ≡ has_asked (brought self.now) (plan (command_of command.now)) };
+        ensures asked { asked_view (λ _. tt) result ≡ has_asked (brought self.now) (plan (command_of command.now)) };
 
     /// The skin of pages.
     fn skin(&self) -> &Skin<'_>
@@ -129,7 +130,7 @@ impl Brings for Bringing<'_> {
     ghost is_fresh = { λ b. AreFresh (λ format. (RowFormat-box format).is_closed format.value) (λ format. (RowFormat-box format).rows_so_far format.value) b.formats.items
         × AreFresh (λ format. (ReportFormat-box format).is_ended format.value) (λ format. (ReportFormat-box format).lines_so_far format.value) b.reports.items };
 
-    fn check<'a>(&self, command: &'a Command) -> Result<(), Failure<'a>> {
+    fn check<'a>(&self, command: &'a Command) -> Result<(), Misuse<'a>> {
         check_format(format(command), &self.formats)?;
         check_report(report(command), &self.reports)
     }

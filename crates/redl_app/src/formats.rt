@@ -3,9 +3,9 @@
 ghost use Rattle.std.specs.Prelude.{◌≡◌};
 ghost use Rattle.std.specs.Option.{option_copied};
 ghost use Rattle.redl_commands_shown.specs.Formats.{format_named, formats_by, has_format, whether};
-ghost use Rattle.redl_inputs.specs.Views.{result_view};
+ghost use Rattle.redl_lines.specs.Failures.{asked_view};
 
-use redl_lines::{Cause, Failure};
+use redl_lines::Misuse;
 use redl_listing::{RowFormat, has_name};
 use redl_report::{ReportFormat, has_report_name};
 
@@ -13,8 +13,8 @@ use redl_report::{ReportFormat, has_report_name};
 pub(crate) fn check_format<'a>(
     asked: Option<&'a str>,
     formats: &[Box<dyn RowFormat>],
-) -> Result<(), Failure<'a>>
-    ensures { result_view (λ _. tt) result ≡ has_format (formats_by format_name text_for formats.now) (option_copied asked.entry) }
+) -> Result<(), Misuse<'a>>
+    ensures { asked_view (λ _. tt) result ≡ has_format (formats_by format_name text_for formats.now) (option_copied asked.entry) }
 {
     match asked {
         Some(name) => find_format(name, formats),
@@ -23,23 +23,23 @@ pub(crate) fn check_format<'a>(
 }
 
 // Whether there is a format of this name.
-fn find_format<'a>(name: &'a str, formats: &[Box<dyn RowFormat>]) -> Result<(), Failure<'a>>
-    ensures { result_view (λ _. tt) result ≡ whether (format_named (formats_by format_name text_for formats.now) name.now) }
+fn find_format<'a>(name: &'a str, formats: &[Box<dyn RowFormat>]) -> Result<(), Misuse<'a>>
+    ensures { asked_view (λ _. tt) result ≡ whether (format_named (formats_by format_name text_for formats.now) name.now) }
 {
     for format in formats {
         if has_name(format, name) {
             return Ok(());
         }
     }
-    Err(Failure::Cause(Cause::NoFormat(name)))
+    Err(Misuse::NoFormat(name))
 }
 
 /// Whether there is a format of reports of this name, if one is asked for.
 pub(crate) fn check_report<'a>(
     asked: Option<&'a str>,
     reports: &[Box<dyn ReportFormat>],
-) -> Result<(), Failure<'a>>
-    ensures { result_view (λ _. tt) result ≡ has_format (formats_by report_name report_text reports.now) (option_copied asked.entry) }
+) -> Result<(), Misuse<'a>>
+    ensures { asked_view (λ _. tt) result ≡ has_format (formats_by report_name report_text reports.now) (option_copied asked.entry) }
 {
     match asked {
         Some(name) => find_report(name, reports),
@@ -48,13 +48,13 @@ pub(crate) fn check_report<'a>(
 }
 
 // Whether there is a format of reports of this name.
-fn find_report<'a>(name: &'a str, reports: &[Box<dyn ReportFormat>]) -> Result<(), Failure<'a>>
-    ensures { result_view (λ _. tt) result ≡ whether (format_named (formats_by report_name report_text reports.now) name.now) }
+fn find_report<'a>(name: &'a str, reports: &[Box<dyn ReportFormat>]) -> Result<(), Misuse<'a>>
+    ensures { asked_view (λ _. tt) result ≡ whether (format_named (formats_by report_name report_text reports.now) name.now) }
 {
     for format in reports {
         if has_report_name(format, name) {
             return Ok(());
         }
     }
-    Err(Failure::Cause(Cause::NoFormat(name)))
+    Err(Misuse::NoFormat(name))
 }

@@ -8,7 +8,7 @@ ghost use Rattle.redl_lines.specs.Ends.{Tells};
 ghost use Rattle.redl_lines.specs.Lines.{unwritten_line};
 
 use redl_io::Sink;
-use redl_lines::{End, Remarks, Status, tell};
+use redl_lines::{CallEnd, End, Remarks, Status, tell};
 use std::alloc::Global;
 
 /// Writes a text that the program tells of itself, and gives the status that the program ends with.
@@ -26,6 +26,7 @@ pub fn tell_text<O: Sink, E: Sink>(alloc: Global, text: &str, out: &mut O, err: 
         Ok(()) => End::Written(remarks),
         Err(_) => End::Unwritten(remarks),
     };
+    let end = CallEnd::Command(end);
     tell(&end, err);
     end.status()
 }

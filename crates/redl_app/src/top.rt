@@ -3,8 +3,8 @@
 //! `run` makes one word of what is brought, `run_by` reads the words, `end_of_words` ends a call by them, and `end_of_command` looks
 //! for the format, fetches the package, and has the command carried out.
 
-ghost use Rattle.std.specs.Prelude.{◌≡◌, ◌≢◌, ◌⊎◌, [], All, IfErr, IfOk, IsUtf8, Ok, Result};
-ghost use Rattle.redl_outcome.specs.Answers.{AreLines, Asks, IsAnswer, MayFault, OfOutcome, TellsSome, Writes};
+ghost use Rattle.std.specs.Prelude.{◌≡◌, ◌≢◌, ◌⊎◌, ◌↔◌, [], All, IfErr, IfOk, IsUtf8, Ok, Result};
+ghost use Rattle.redl_outcome.specs.Answers.{AreLines, AreMisused, Asks, IsAnswer, LacksFormat, MayFault, OfOutcome, TellsSome, Writes};
 ghost use Rattle.redl_outcome.specs.Files.{files_of};
 ghost use Rattle.redl_outcome.specs.Words.{IsWanted, named_files, read_view, words_failure};
 ghost use Rattle.redl_commands.specs.Endings.{Ends};
@@ -19,8 +19,8 @@ ghost use Rattle.redl_inputs.specs.Readers.{IsReader, Reader};
 ghost use Rattle.redl_io.specs.Faults.{Rose};
 ghost use Rattle.redl_io.specs.MemShelf.{file_named};
 ghost use Rattle.redl_io.specs.Shelf.{Files};
-ghost use Rattle.redl_lines.specs.Ends.{Tells, end_status, end_view, failed};
-ghost use Rattle.redl_lines.specs.Failures.{Failure as FailureOf, failure_status, failure_view};
+ghost use Rattle.redl_lines.specs.Ends.{Tells, call_end_view, end_status, failed};
+ghost use Rattle.redl_lines.specs.Failures.{Failure as FailureOf, failure_status};
 ghost use Rattle.redl_lines.specs.Lines.{failure_line};
 ghost use Rattle.redl_words.specs.Commands.{Command as CommandOf, HasNoCommand, HasUtf8, IsCommand};
 ghost use Rattle.redl_words.specs.Views.{command_of};
@@ -30,7 +30,7 @@ use crate::commands::carry_out;
 use crate::plan::package;
 use redl_inputs::fetch_package;
 use redl_io::{NullSink, Shelf, Sink, SureShelf, Text};
-use redl_lines::{Cause, End, Failure, Status, tell};
+use redl_lines::{CallEnd, End, Failure, Misuse, Status, tell};
 use redl_listing::RowFormat;
 use redl_page::Skin;
 use redl_report::ReportFormat;
@@ -65,7 +65,11 @@ pub fn run<F: Shelf, O: Sink, E: Sink>(
         (λ outcome. IsAnswer result outcome (Rose (F.faults shelf.old) (F.faults shelf.new)) (Rose (O.faults out.old) (O.faults out.new))) }
 
     // Over every shelf.
-    ensures usage { HasNoCommand words.now → (result ≡ Status.Usage) ⊎ (result ≡ Status.NoMemory) }
+    ensures usage { AreMisused words.now
+        (brought_by format_name text_for formats.old.items report_name report_text reports.old.items skin.now)
+        → (result ≡ Status.Usage) ⊎ (result ≡ Status.NoMemory) }
+    ensures only_usage { result ≡ Status.Usage → AreMisused words.now
+        (brought_by format_name text_for formats.old.items report_name report_text reports.old.items skin.now) }
     ensures read { result ≡ Status.ReadFault → MayFault words.now
         (brought_by format_name text_for formats.old.items report_name report_text reports.old.items skin.now)
         (F.told shelf.old) (Rose (F.faults shelf.old) (F.faults shelf.new)) }
@@ -135,7 +139,8 @@ pub(crate) fn run_by<F: Shelf, O: Sink, E: Sink, B: Brings>(
         (λ outcome. IsAnswer result outcome (Rose (F.faults shelf.old) (F.faults shelf.new)) (Rose (O.faults out.old) (O.faults out.new))) }
 
     // Over every shelf.
-    ensures usage { HasNoCommand words.now → (result ≡ Status.Usage) ⊎ (result ≡ Status.NoMemory) }
+    ensures usage { AreMisused words.now (B.brought brings.old) → (result ≡ Status.Usage) ⊎ (result ≡ Status.NoMemory) }
+    ensures only_usage { result ≡ Status.Usage → AreMisused words.now (B.brought brings.old) }
     ensures read { result ≡ Status.ReadFault → MayFault words.now (B.brought brings.old)
         (F.told shelf.old) (Rose (F.faults shelf.old) (F.faults shelf.new)) }
     ensures write { result ≡ Status.WriteFault → Rose (O.faults out.old) (O.faults out.new) }
@@ -183,33 +188,35 @@ fn end_of_words<'a, F: Shelf, O: Sink, B: Brings>(
     shelf: &mut F,
     out: &mut O,
     brings: &mut B,
-) -> End<'a>
+) -> CallEnd<'a>
     requires utf8 { IfOk read.now (λ command. HasUtf8 (command_of command)) }
     requires fresh { B.is_fresh brings.old }
     ensures ends { (due : Reader → Files → Result WritingOf FailureOf) → IsWanted
         (B.brought brings.old) (read_view read.now) due
         → Ends F.told F.faults F.asked shelf.old shelf.new O.told O.faults out.old out.new
-        (named_files (B.brought brings.old) read.now) due (end_view result) }
-    ensures words { IfErr read.now (λ error. end_view result ≡ failed (words_failure error)) }
-    ensures taken { IfOk read.now (λ command. LeavesFormats (end_status (end_view result))
+        (named_files (B.brought brings.old) read.now) due (call_end_view result) }
+    ensures words { IfErr read.now (λ error. call_end_view result ≡ failed (words_failure error)) }
+    ensures usage { IfOk read.now (λ command. (end_status (call_end_view result) ≡ Status.Usage) ↔ LacksFormat (B.brought brings.old) (plan (command_of command))) }
+    ensures taken { IfOk read.now (λ command. LeavesFormats (end_status (call_end_view result))
         (without_asked B.format_title (plan (command_of command)).format (B.formats brings.old)) (B.formats brings.old) (B.formats brings.new)) }
-    ensures taken_report { IfOk read.now (λ command. LeavesFormats (end_status (end_view result))
+    ensures taken_report { IfOk read.now (λ command. LeavesFormats (end_status (call_end_view result))
         (without_asked B.report_title (plan (command_of command)).report (B.reports brings.old)) (B.reports brings.old) (B.reports brings.new)) }
     ensures no_format { IfErr read.now (λ _. B.formats brings.new ≡ B.formats brings.old) }
     ensures no_report { IfErr read.now (λ _. B.reports brings.new ≡ B.reports brings.old) }
 {
     match read {
         Ok(command) => end_of_command(alloc, command, shelf, out, brings),
-        Err(error) => End::Failed(failure_of(*error)),
+        Err(error) => end_without_words(*error),
     }
 }
 
-fn failure_of(error: WordsError) -> Failure<'static>
-    ensures { failure_view result ≡ words_failure error }
+// How a call ends whose words could not be had.
+fn end_without_words(error: WordsError) -> CallEnd<'static>
+    ensures { call_end_view result ≡ failed (words_failure error) }
 {
     match error {
-        WordsError::Usage => Failure::Cause(Cause::Usage),
-        WordsError::NoMemory => Failure::NoMemory,
+        WordsError::Usage => CallEnd::Misuse(Misuse::Words),
+        WordsError::NoMemory => CallEnd::Command(End::Failed(Failure::NoMemory)),
     }
 }
 
@@ -220,7 +227,7 @@ fn end_of_command<'a, F: Shelf, O: Sink, B: Brings>(
     shelf: &mut F,
     out: &mut O,
     brings: &mut B,
-) -> End<'a>
+) -> CallEnd<'a>
     requires utf8 { HasUtf8 (command_of command.now) }
     requires fresh { B.is_fresh brings.old }
     ensures ends { Ends F.told F.faults F.asked shelf.old shelf.new O.told O.faults out.old out.new
@@ -229,21 +236,22 @@ fn end_of_command<'a, F: Shelf, O: Sink, B: Brings>(
         (λ reader files. carried_out reader files
         (B.brought brings.old)
         (plan (command_of command.now)))
-        (end_view result) }
-    ensures taken { LeavesFormats (end_status (end_view result))
+        (call_end_view result) }
+    ensures usage { (end_status (call_end_view result) ≡ Status.Usage) ↔ LacksFormat (B.brought brings.old) (plan (command_of command.now)) }
+    ensures taken { LeavesFormats (end_status (call_end_view result))
         (without_asked B.format_title (plan (command_of command.now)).format (B.formats brings.old)) (B.formats brings.old) (B.formats brings.new) }
-    ensures taken_report { LeavesFormats (end_status (end_view result))
+    ensures taken_report { LeavesFormats (end_status (call_end_view result))
         (without_asked B.report_title (plan (command_of command.now)).report (B.reports brings.old)) (B.reports brings.old) (B.reports brings.new) }
 {
-    if let Err(failure) = brings.check(command) {
-        return End::Failed(failure);
+    if let Err(misuse) = brings.check(command) {
+        return CallEnd::Misuse(misuse);
     }
     let Some(name) = package(command) else {
-        return carry_out(alloc, command, None, shelf, out, brings);
+        return CallEnd::Command(carry_out(alloc, command, None, shelf, out, brings));
     };
     match fetch_package(alloc, name, shelf) {
-        Ok(text) => carry_out(alloc, command, Some(&text), shelf, out, brings),
-        Err(failure) => End::Failed(failure),
+        Ok(text) => CallEnd::Command(carry_out(alloc, command, Some(&text), shelf, out, brings)),
+        Err(failure) => CallEnd::Command(End::Failed(failure)),
     }
 }
 
@@ -252,7 +260,7 @@ pub fn refuse_words<E: Sink>(error: WordsError, err: &mut E) -> Status
     ensures status { result ≡ failure_status (words_failure error) }
     ensures lines { Tells E.told E.faults err.old err.new (failure_line (words_failure error)) }
 {
-    let end = End::Failed(failure_of(error));
+    let end = end_without_words(error);
     tell(&end, err);
     end.status()
 }

@@ -1,13 +1,12 @@
 -- The union of journals.
-use Rattle.std.proofs.Common.{◌≡◌, ◌<◌, ◌≤◌, ◌-◌, ℕ, List, [], ◌∷◌, length, take, drop, get_or, Option, Result, Err, refl, ap, ◌∙◌, subst, arith}
+use Rattle.std.proofs.Common.{◌≡◌, ◌<◌, ◌≤◌, ◌-◌, ℕ, List, [], ◌∷◌, length, take, drop, get_or, Option, Result, refl, ap, ◌∙◌, subst, arith}
 use Rattle.std.proofs.lemmas.List.{take_all}
 use Rattle.redl_commands.specs.Join.{joined}
 use Rattle.redl_commands.specs.Writing.{Writing}
-use Rattle.redl_inputs.proofs.ReadLaws.{fails_alone}
 use Rattle.redl_inputs.specs.Reading.{ReadsFiles}
 use Rattle.redl_io.specs.Limits.{journal_bytes}
 use Rattle.redl_io.specs.Shelf.{Files}
-use Rattle.redl_lines.specs.Failures.{Failure, caused, usage}
+use Rattle.redl_lines.specs.Failures.{Failure}
 
 -- a list is its first item and the rest
 pub first_rest : (xs : List (List ℕ)) (x : List ℕ) → 1 ≤ length xs → x ≡ get_or xs 0 x → x ∷ take (length xs - 1) (drop 1 xs) ≡ xs
@@ -20,9 +19,3 @@ pub joins_same : {S : Type 0} {told : S → Option Files} {faults : S → ℕ} {
     → ReadsFiles told faults asked old new others made (λ reader files. joined reader files journal_bytes others)
 joins_same {told = told} {faults = faults} {asked = asked} {old = old} {new = new} {made = made} names others same step =
     subst (λ ns. ReadsFiles told faults asked old new ns made (λ reader files. joined reader files journal_bytes ns)) same step
-
--- without a journal there is no union
-pub joins_nothing : {S : Type 0} {told : S → Option Files} {faults : S → ℕ} {asked : S → Option (List (List ℕ))} (shelf : S) (names : List (List ℕ)) → length names < 1
-    → ReadsFiles {Y = Writing} told faults asked shelf shelf names (Err (caused usage)) (λ reader files. joined reader files journal_bytes names)
-joins_nothing shelf [] none = fails_alone shelf [] tt (λ reader files is. refl)
-joins_nothing shelf (name ∷ names) none = absurd (omega (arith, none))

@@ -1,6 +1,6 @@
 //! `join J ..`: one journal of several journals of one document.
 
-ghost use Rattle.std.specs.Prelude.{◌≡◌, ◌∷◌, [], All, IsUtf8, IfOk};
+ghost use Rattle.std.specs.Prelude.{◌≡◌, ◌≢◌, ◌∷◌, [], All, IsUtf8, IfOk};
 ghost use Rattle.redl_commands.specs.Join.{document_in, joined};
 ghost use Rattle.redl_inputs.specs.Reading.{ReadsFiles};
 ghost use Rattle.redl_commands.specs.Views.{writing_view};
@@ -15,7 +15,7 @@ use redl_inputs::{DocumentId, JOURNALS_LIMIT, add_entries, join_journals, name_o
 use redl_io::{Shelf, Text};
 use redl_join::Book;
 use redl_journal::Journal;
-use redl_lines::{Cause, Failure};
+use redl_lines::Failure;
 use std::alloc::{AllocError, Global};
 
 /// The journal of the union of the journals of these names, which are of the first one's document.
@@ -24,13 +24,14 @@ pub fn join_files<'a, 'b, F: Shelf>(
     journals: &'a [Text],
     shelf: &mut F,
 ) -> Result<Writing<'b>, Failure<'a>>
-    requires { All IsUtf8 journals.now }
+    requires utf8 { All IsUtf8 journals.now }
+    requires some { journals.now ≢ [] }
     ensures { ReadsFiles F.told F.faults F.asked shelf.old shelf.new journals.now
         (result_view writing_view result) (λ reader files. joined reader files journal_bytes journals.now) }
 {
     match journals {
         [first, rest @ ..] => join_to(alloc, name_of(first), rest, shelf),
-        [] => Err(Failure::Cause(Cause::Usage)),
+        [] => unreachable!(),
     }
 }
 

@@ -1,3 +1,4 @@
 pub mod CauseLaws
 pub mod LimitLaws
+pub mod MisuseLaws
 pub mod RefusedLaws

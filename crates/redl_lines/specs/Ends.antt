@@ -4,12 +4,14 @@ use Rattle.std.specs.Io.KnownBytes.{append_known}
 use Rattle.std.specs.List.{flat_map}
 use Rattle.redl_io.specs.Faults.{Rose}
 use Rattle.redl_io.specs.Sink.{GrowsByFront}
-use Rattle.redl_lines.specs.Failures.{Failure, failure_view, failure_status}
+use Rattle.redl_lines.specs.Failures.{Failure, caused, failure_view, failure_status, misuse_cause}
 use Rattle.redl_lines.specs.Lines.{failure_line, idle_line, note_line, refused_line, unwritten_line}
 use Rattle.redl_lines.specs.Refused.{RefusedEntries}
 use Rattle.redl_lines.specs.Remarks.{Remarks, all_refused, remarks_view}
 use Rattle.redl_lines.specs.declared.end.End.{End as Declared}
 use Rattle.redl_lines.specs.declared.end.End.TheVariants as declared
+use Rattle.redl_lines.specs.declared.end.CallEnd.{CallEnd}
+use Rattle.redl_lines.specs.declared.end.CallEnd.TheVariants.{Command, Misuse}
 use Rattle.redl_lines.specs.declared.status.Status.{Status}
 use Rattle.redl_lines.specs.declared.status.Status.TheVariants as status
 
@@ -27,6 +29,11 @@ abbrev pub end_view : Declared → End
 end_view (declared.Written remarks) = written (remarks_view remarks)
 end_view (declared.Unwritten remarks) = unwritten (remarks_view remarks)
 end_view (declared.Failed failure) = failed (failure_view failure)
+
+-- the same of the ends of calls
+abbrev pub call_end_view : CallEnd → End
+call_end_view (Command end) = end_view end
+call_end_view (Misuse misuse) = failed (caused (misuse_cause misuse))
 
 -- the status of a call that wrote all, where these entries were refused
 abbrev pub written_status : RefusedEntries → Status

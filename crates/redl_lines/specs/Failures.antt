@@ -1,11 +1,13 @@
 -- Why a call ends without its output, and the status of each cause.
-use Rattle.std.specs.Prelude.{ℕ, List}
+use Rattle.std.specs.Prelude.{ℕ, List, Result, Ok, Err}
 use Rattle.redl_lines.specs.declared.failure.Limit.{Limit}
 use Rattle.redl_lines.specs.declared.failure.PackageFault.{PackageFault}
 use Rattle.redl_lines.specs.declared.failure.Cause.{Cause as DeclaredCause}
 use Rattle.redl_lines.specs.declared.failure.Cause.TheVariants as cause
 use Rattle.redl_lines.specs.declared.failure.Failure.{Failure as DeclaredFailure}
 use Rattle.redl_lines.specs.declared.failure.Failure.TheVariants as failure
+use Rattle.redl_lines.specs.declared.misuse.Misuse.{Misuse}
+use Rattle.redl_lines.specs.declared.misuse.Misuse.TheVariants as misuse
 use Rattle.redl_lines.specs.declared.status.Status.{Status}
 use Rattle.redl_lines.specs.declared.status.Status.TheVariants as status
 
@@ -44,8 +46,6 @@ pub data Failure : Type 0 where
 
 -- what a clause sees of the code's causes
 abbrev pub cause_view : DeclaredCause → Cause
-cause_view cause.Usage = usage
-cause_view (cause.NoFormat name) = no_format name.now
 cause_view (cause.Package fault) = no_package fault
 cause_view (cause.Second fault) = no_second fault
 cause_view (cause.Malformed name) = malformed name.now
@@ -56,11 +56,21 @@ cause_view cause.NotWritten = not_written
 cause_view cause.Differ = differ
 cause_view (cause.Limit limit) = over limit
 
+-- a misuse of the words as the cause that it is
+abbrev pub misuse_cause : Misuse → Cause
+misuse_cause misuse.Words = usage
+misuse_cause (misuse.NoFormat name) = no_format name.now
+
 -- a failure of the code as plain data
 abbrev pub failure_view : DeclaredFailure → Failure
 failure_view (failure.Cause c) = caused (cause_view c)
 failure_view (failure.Unread name) = unread name.now
 failure_view failure.NoMemory = no_memory
+
+-- what the words ask for, seen by the view, or why there is no such thing
+abbrev pub asked_view : {X Y : Type 0} → (X → Y) → Result X Misuse → Result Y Failure
+asked_view view (Ok x) = Ok (view x)
+asked_view view (Err misuse) = Err (caused (misuse_cause misuse))
 
 -- the exit status for a cause
 abbrev pub cause_status : Cause → Status

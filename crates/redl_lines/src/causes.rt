@@ -1,17 +1,28 @@
 //! The line of each failure.
 
 ghost use Rattle.std.specs.Prelude.{◌≡◌};
-ghost use Rattle.redl_lines.specs.Failures.{cause_view, failure_view};
+ghost use Rattle.redl_lines.specs.Failures.{cause_view, failure_view, misuse_cause};
 ghost use Rattle.redl_lines.specs.Lines.{failure_line, cause_line, no_format_line, fault_line, limit_line as limit_line_of, unread_line, malformed_line, other_document_line, other_count_line, difference_line, no_sequence_line};
 ghost use Rattle.redl_io.specs.Sink.{Puts};
 
 use crate::failure::{Cause, Failure, Limit, PackageFault};
+use crate::misuse::Misuse;
 use crate::named::write_named;
 use itoa::Buffer;
 use redl_io::{Failed, Sink, put_piece, put_pieces};
 use redl_journal::digest_digits;
 
-/// Puts the line of a call that ends so.
+/// Puts the line of a call with such words.
+pub(crate) fn write_misuse<K: Sink>(misuse: &Misuse<'_>, err: &mut K) -> Result<(), Failed>
+    ensures { Puts K.told K.faults K.settled K.lenders err.old err.new (cause_line (misuse_cause misuse.now)) result }
+{
+    match misuse {
+        Misuse::Words => put_piece(b"redline: cannot read the command line\n", err),
+        Misuse::NoFormat(name) => write_no_format(name, err),
+    }
+}
+
+/// Puts the line of a command that ends so.
 pub(crate) fn write_failure<K: Sink>(failure: &Failure<'_>, err: &mut K) -> Result<(), Failed>
     ensures { Puts K.told K.faults K.settled K.lenders err.old err.new (failure_line (failure_view failure.now)) result }
 {
@@ -26,8 +37,6 @@ fn write_cause<K: Sink>(cause: &Cause<'_>, err: &mut K) -> Result<(), Failed>
     ensures { Puts K.told K.faults K.settled K.lenders err.old err.new (cause_line (cause_view cause.now)) result }
 {
     match cause {
-        Cause::Usage => put_piece(b"redline: cannot read the command line\n", err),
-        Cause::NoFormat(name) => write_no_format(name, err),
         Cause::Package(fault) => write_fault(b"redline: package: ", *fault, err),
         Cause::Second(fault) => write_fault(b"redline: second package: ", *fault, err),
         Cause::Malformed(journal) => write_malformed(journal, err),

@@ -4,9 +4,10 @@ ghost use Rattle.std.specs.Prelude.{◌≡◌};
 
 use crate::Status;
 use crate::failure::Failure;
+use crate::misuse::Misuse;
 use crate::remarks::Remarks;
 
-/// How a call ends, with what its lines tell.
+/// How a command ends, with what its lines tell.
 #[derive(Drop)]
 pub enum End<'a> {
     /// All was written, with these remarks.
@@ -20,8 +21,8 @@ pub enum End<'a> {
 impl End<'_> {
     ghost use Rattle.redl_lines.specs.Ends.{end_status, end_view};
 
-    /// The status of a call that ends so.
-    pub fn status(&self) -> Status
+    /// The status of a call whose command ends so.
+    pub(crate) fn status(&self) -> Status
         ensures { result ≡ end_status (end_view self.now) }
     {
         match self {
@@ -29,6 +30,29 @@ impl End<'_> {
             End::Written(_) => Status::Refused,
             End::Unwritten(_) => Status::WriteFault,
             End::Failed(failure) => failure.status(),
+        }
+    }
+}
+
+/// How a call ends.
+#[derive(Drop)]
+pub enum CallEnd<'a> {
+    /// As its command does.
+    Command(End<'a>),
+    /// At once: its words ask for nothing that there is.
+    Misuse(Misuse<'a>),
+}
+
+impl CallEnd<'_> {
+    ghost use Rattle.redl_lines.specs.Ends.{call_end_view, end_status};
+
+    /// The status of a call that ends so.
+    pub fn status(&self) -> Status
+        ensures { result ≡ end_status (call_end_view self.now) }
+    {
+        match self {
+            CallEnd::Command(end) => end.status(),
+            CallEnd::Misuse(misuse) => misuse.status(),
         }
     }
 }

@@ -38,13 +38,9 @@ pub enum Limit {
     Sample,
 }
 
-/// What in the words or in the files of a call makes it end without its output.
+/// What in the files of a call, or in what its words ask of them, makes it end without its output.
 #[derive(Clone, Copy)]
 pub enum Cause<'a> {
-    /// The words are no command.
-    Usage,
-    /// No listing format has this name.
-    NoFormat(&'a str),
     /// The file is no package.
     Package(PackageFault),
     /// The second of two files is no package.
@@ -81,7 +77,6 @@ impl Cause<'_> {
         ensures { result ≡ cause_status (cause_view self.now) }
     {
         match self {
-            Cause::Usage | Cause::NoFormat(_) => Status::Usage,
             Cause::Package(_) | Cause::Second(_) => Status::Package,
             Cause::Malformed(_) | Cause::OtherDocument { .. } | Cause::OtherCount { .. } =>
                 Status::Journal,
@@ -93,10 +88,10 @@ impl Cause<'_> {
     }
 }
 
-/// Why a call ends without its output.
+/// Why a command ends without its output. It is never a misuse of the words: that is found before the command begins.
 #[derive(Clone, Copy)]
 pub enum Failure<'a> {
-    /// The words or the files are the cause.
+    /// The files are the cause.
     Cause(Cause<'a>),
     /// The file of this name is missing, or could not be fetched.
     Unread(&'a str),

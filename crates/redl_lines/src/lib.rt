@@ -10,15 +10,17 @@ mod causes;
 mod end;
 mod failure;
 mod lines;
+mod misuse;
 mod named;
 mod note;
 mod refused;
 mod remarks;
 mod status;
 
-pub use end::End;
+pub use end::{CallEnd, End};
 pub use failure::{Cause, Failure, Limit, PackageFault};
 pub use lines::tell;
+pub use misuse::Misuse;
 pub use note::Note;
 pub use refused::RefusedEntries;
 pub use remarks::Remarks;

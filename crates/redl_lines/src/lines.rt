@@ -3,14 +3,14 @@
 ghost use Rattle.std.specs.Prelude.{◌≡◌, ◌++◌, codes, decimal, OnOk, OnErr};
 ghost use Rattle.std.specs.Io.KnownBytes.{append_known};
 ghost use Rattle.std.specs.List.{flat_map};
-ghost use Rattle.redl_lines.specs.Ends.{Tells, end_lines, end_view, remark_lines};
+ghost use Rattle.redl_lines.specs.Ends.{Tells, call_end_view, end_lines, end_view, remark_lines};
 ghost use Rattle.redl_lines.specs.Lines.{cause_text, decision_text, gone_line, idle_line, marks_line, note_line, one_mark_line, ranked_text, refused_line, bar_text as bar_text_of, why_text as why_text_of};
 ghost use Rattle.redl_lines.specs.Remarks.{remarks_view};
 ghost use Rattle.redl_io.specs.Sink.{Puts, GrowsByFront, CountsPut};
 ghost use Rattle.redl_journal.specs.Journals.{word_text};
 
-use crate::causes::write_failure;
-use crate::end::End;
+use crate::causes::{write_failure, write_misuse};
+use crate::end::{CallEnd, End};
 use crate::named::write_named;
 use crate::note::Note;
 use crate::refused::RefusedEntries;
@@ -22,21 +22,30 @@ use redl_kinds::Lock;
 use redl_session::{AdmitError, Bar};
 
 /// Writes the lines of a call that ends so. A fault of `err` only shortens them.
-pub fn tell<E: Sink>(end: &End<'_>, err: &mut E)
-    ensures { Tells E.told E.faults err.old err.new (end_lines (end_view end.now)) }
+pub fn tell<E: Sink>(end: &CallEnd<'_>, err: &mut E)
+    ensures { Tells E.told E.faults err.old err.new (end_lines (call_end_view end.now)) }
 {
     let _ = write_staged(end, err);
 }
 
 // Writes the lines through a stage.
-fn write_staged<E: Sink>(end: &End<'_>, err: &mut E) -> Result<(), Failed>
-    ensures all { OnOk result (E.told err.new ≡ append_known (E.told err.old) (end_lines (end_view end.now))) }
-    ensures front { OnErr result (GrowsByFront (E.told err.old) (E.told err.new) (end_lines (end_view end.now))) }
+fn write_staged<E: Sink>(end: &CallEnd<'_>, err: &mut E) -> Result<(), Failed>
+    ensures all { OnOk result (E.told err.new ≡ append_known (E.told err.old) (end_lines (call_end_view end.now))) }
+    ensures front { OnErr result (GrowsByFront (E.told err.old) (E.told err.new) (end_lines (call_end_view end.now))) }
     ensures cause { CountsPut (E.faults err.old) (E.faults err.new) result }
 {
     let mut staged = Staged::new(err);
-    write_lines(end, &mut staged)?;
+    write_end(end, &mut staged)?;
     staged.finish()
+}
+
+fn write_end<K: Sink>(end: &CallEnd<'_>, err: &mut K) -> Result<(), Failed>
+    ensures { Puts K.told K.faults K.settled K.lenders err.old err.new (end_lines (call_end_view end.now)) result }
+{
+    match end {
+        CallEnd::Command(end) => write_lines(end, err),
+        CallEnd::Misuse(misuse) => write_misuse(misuse, err),
+    }
 }
 
 fn write_lines<K: Sink>(end: &End<'_>, err: &mut K) -> Result<(), Failed>

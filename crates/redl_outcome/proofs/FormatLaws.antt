@@ -1,51 +1,64 @@
 -- The step before the package: whether the formats are there that a command asks for.
-use Rattle.std.proofs.Common.{◌≡◌, inr, ℕ, List, [], Option, None, Some, Result, Ok, Err, refl, ◌∙◌, subst}
+use Rattle.std.proofs.Common.{◌≡◌, ◌↔◌, ℕ, List, [], Option, None, Some, Result, Ok, Err, refl, sym, ap, ◌∙◌}
+use Rattle.redl_outcome.specs.Answers.{LacksFormat}
+use Rattle.redl_outcome.specs.Brought.{Brought}
 use Rattle.redl_outcome.specs.Files.{where_ok}
+use Rattle.redl_outcome.specs.Plans.{Plan, has_asked}
 use Rattle.redl_commands.specs.Endings.{Ends}
 use Rattle.redl_commands_shown.specs.Formats.{Format, found_format, has_format, whether}
 use Rattle.redl_commands.specs.Writing.{Writing}
-use Rattle.redl_inputs.proofs.ReadLaws.{fails_alone, never_as}
+use Rattle.redl_inputs.proofs.ReadLaws.{fails_alone}
 use Rattle.redl_inputs.specs.Readers.{Reader}
-use Rattle.redl_inputs.specs.Reading.{IsMade, NeverUnread}
 use Rattle.redl_inputs.specs.Steps.{◌>>=◌}
 use Rattle.redl_io.specs.Shelf.{Files}
-use Rattle.redl_lines.specs.Ends.{End, failed}
-use Rattle.redl_lines.specs.Failures.{Failure, caused, unread, no_memory, no_format}
+use Rattle.redl_lines.proofs.MisuseLaws.{end_is_no_usage}
+use Rattle.redl_lines.specs.Ends.{End, end_status, end_view, failed}
+use Rattle.redl_lines.specs.Failures.{Cause, Failure, caused, failure_status, no_format}
+use Rattle.redl_lines.specs.declared.end.End.{End as DeclaredEnd}
+use Rattle.redl_lines.specs.declared.status.Status.TheVariants as status
 use Rattle.redl_formats.specs.Formats.{first_named}
 
--- whether a format was found says no more than this
-found_whether : {I : Type 0} (name : List ℕ) (found : Option (Format I)) (failure : Failure) → whether (found_format name found) ≡ Err failure → NeverUnread {Y = Unit {0}} (Err failure)
-found_whether name None failure is =
-    let same : caused (no_format name) ≡ failure = cc is in
-    subst (λ (f : Failure). NeverUnread {Y = Unit {0}} (Err f)) same tt
-found_whether name (Some format) failure is = absurd (cc is)
+-- ---- a format that is not there
 
--- a missing format is no missing file
-pub format_is_no_file : {I : Type 0} (formats : List (Format I)) (asked : Option (List ℕ)) (failure : Failure) → has_format formats asked ≡ Err failure → NeverUnread {Y = Unit {0}} (Err failure)
-format_is_no_file formats None failure is = absurd (cc is)
-format_is_no_file formats (Some name) failure is = found_whether name (first_named (λ format. format.name) name formats) failure is
+-- this is why there is no format of some name
+abbrev pub IsMissing : Failure → Type 0
+IsMissing failure = (name : List ℕ) × (failure ≡ caused (no_format name))
 
--- nor is one of two that a command may ask for
-pub asked_is_no_file : {I J : Type 0} (formats : List (Format I)) (reports : List (Format J)) (asked other : Option (List ℕ)) (failure : Failure)
-    → has_format formats asked >>= (λ there. has_format reports other) ≡ Err failure → NeverUnread {Y = Unit {0}} (Err failure)
-asked_is_no_file formats reports asked other failure is = by (has_format formats asked) refl is where
-  by : (found : Result (Unit {0}) Failure) → has_format formats asked ≡ found → found >>= (λ there. has_format reports other) ≡ Err failure → NeverUnread {Y = Unit {0}} (Err failure)
-  by (Ok there) found is = format_is_no_file reports other failure is
-  by (Err cause) found is = format_is_no_file formats asked failure (found ∙ is)
+whether_found : {I : Type 0} (name : List ℕ) (found : Option (Format I)) (failure : Failure) → whether (found_format name found) ≡ Err failure → IsMissing failure
+whether_found name None failure is = (name, cc is)
+whether_found name (Some format) failure is = absurd (cc is)
 
-same_failure : (failure : Failure) (fault : Type 0) → IsMade {Y = Writing} (Err failure) (Err failure) fault
-same_failure no_memory fault = tt
-same_failure (unread name) fault = inr refl
-same_failure (caused cause) fault = refl
+no_format_of : {I : Type 0} (formats : List (Format I)) (asked : Option (List ℕ)) (failure : Failure) → has_format formats asked ≡ Err failure → IsMissing failure
+no_format_of formats None failure is = absurd (cc is)
+no_format_of formats (Some name) failure is = whether_found name (first_named (λ format. format.name) name formats) failure is
+
+-- what a command asks for is not there for no other cause
+pub is_missing : (brought : Brought) (plan : Plan) (failure : Failure) → has_asked brought plan ≡ Err failure → IsMissing failure
+is_missing brought plan failure is = by (has_format brought.formats plan.format) refl is where
+  by : (found : Result (Unit {0}) Failure) → has_format brought.formats plan.format ≡ found → found >>= (λ there. has_format brought.reports plan.report) ≡ Err failure → IsMissing failure
+  by (Ok there) found is = no_format_of brought.reports plan.report failure is
+  by (Err cause) found is = no_format_of brought.formats plan.format failure (found ∙ is)
+
+-- a call ends so exactly where the format that its command asks for is missing
+pub lacks_format : (brought : Brought) (plan : Plan) (cause : Cause) → has_asked brought plan ≡ Err (caused cause)
+    → (end_status (failed (caused cause)) ≡ status.Usage) ↔ LacksFormat brought plan
+lacks_format brought plan cause is =
+    let missing : IsMissing (caused cause) = is_missing brought plan (caused cause) is in
+    (λ _. (missing.0, is ∙ ap Err missing.1), λ _. ap failure_status missing.1)
+
+-- a command that was carried out lacked no format, and its end is of another status
+pub has_its_format : (brought : Brought) (plan : Plan) (end : DeclaredEnd) → has_asked brought plan ≡ Ok tt → (end_status (end_view end) ≡ status.Usage) ↔ LacksFormat brought plan
+has_its_format brought plan end there = (λ usage. absurd (end_is_no_usage end usage), λ lacks. absurd (cc (sym there ∙ lacks.1)))
+
+-- ---- how a call ends
 
 -- a call ends before it asks for a file
 pub ends_at_once : {S K : Type 0} {holds : S → Option Files} {misses : S → ℕ} {asked : S → Option (List (List ℕ))} (shelf : S) {told : K → Option (List ℕ)} {faults : K → ℕ} (out : K)
-    (there : Result (Unit {0}) Failure) (names : List (List ℕ)) (next : Reader → Files → Result Writing Failure) (failure : Failure)
-    → there ≡ Err failure → NeverUnread {Y = Unit {0}} (Err failure)
-    → Ends holds misses asked shelf shelf told faults out out (where_ok there names) (λ reader files. there >>= (λ found. next reader files)) (failed failure)
-ends_at_once shelf out there names next failure is never = rw is (record {
-  made = Err failure;
-  reads = fails_alone shelf [] (never_as (Unit {0}) Writing failure never) (λ reader files reads. same_failure failure ⊥);
+    (there : Result (Unit {0}) Failure) (names : List (List ℕ)) (next : Reader → Files → Result Writing Failure) (cause : Cause) → there ≡ Err (caused cause)
+    → Ends holds misses asked shelf shelf told faults out out (where_ok there names) (λ reader files. there >>= (λ found. next reader files)) (failed (caused cause))
+ends_at_once shelf out there names next cause is = rw is (record {
+  made = Err (caused cause);
+  reads = fails_alone shelf [] tt (λ reader files reads. refl);
   finishes = (refl, refl, refl);
 })
 

@@ -1,11 +1,11 @@
 -- How a call ends, by the words as they were read.
-use Rattle.std.proofs.Common.{◌≡◌, ◌⊎◌, inl, inr, ℕ, List, [], ◌∷◌, Option, Result, Ok, Err, IfOk, IfErr, IsErrOf, refl, sym, ap, ◌∙◌, subst, arith}
+use Rattle.std.proofs.Common.{◌≡◌, ◌⊎◌, ◌↔◌, inl, inr, ℕ, List, [], ◌∷◌, Option, Result, Ok, Err, IfOk, IfErr, IsErrOf, refl, sym, ap, ◌∙◌, subst, arith}
 use Rattle.redl_inputs.proofs.AskLaws.{ask_more-nothing, asked_none}
 use Rattle.redl_inputs.proofs.ReadLaws.{always, fails_alone, reads_when}
 use Rattle.redl_inputs.proofs.ReaderLaws.{reads_command, reads_no_command}
 use Rattle.redl_outcome.proofs.TopLaws.{AreNamed, NamesWhatIsAsked, due_by}
 use Rattle.redl_lines.proofs.CauseLaws.{by_cause}
-use Rattle.redl_outcome.specs.Answers.{Asks, AsksUpTo}
+use Rattle.redl_outcome.specs.Answers.{AreMisused, Asks, AsksUpTo, LacksFormat}
 use Rattle.redl_outcome.specs.Files.{asked_by, files_of}
 use Rattle.redl_outcome.specs.Words.{IsWanted, read_view, named_files, words_failure}
 use Rattle.redl_commands.specs.Endings.{Ends, Finishes}
@@ -79,11 +79,22 @@ failure_ends : (error : WordsError) (end : End) → end ≡ failed (words_failur
 failure_ends error.Usage end is = inl (ap end_status is)
 failure_ends error.NoMemory end is = inr (ap end_status is)
 
--- words of no command end so
-pub ends_as_usage : (words : List (List ℕ)) (read : Result Declared WordsError) (end : End) → IfOk read (λ command. IsCommand words (command_of command))
-    → IfErr read (λ error. end ≡ failed (words_failure error)) → HasNoCommand words → (end_status end ≡ status.Usage) ⊎ (end_status end ≡ status.NoMemory)
-ends_as_usage words (Ok command) end is ends none = absurd (none (command_of command) is)
-ends_as_usage words (Err error) end is ends none = failure_ends error end ends
+-- a call whose words are misused ends as such, or memory ran out
+pub misused_ends : (brought : Brought) (words : List (List ℕ)) (read : Result Declared WordsError) (end : End) → IfOk read (λ command. IsCommand words (command_of command))
+    → IfErr read (λ error. end ≡ failed (words_failure error)) → IfOk read (λ command. (end_status end ≡ status.Usage) ↔ LacksFormat brought (plan (command_of command)))
+    → AreMisused words brought → (end_status end ≡ status.Usage) ⊎ (end_status end ≡ status.NoMemory)
+misused_ends brought words (Ok found) end is ends exactly (inl none) = absurd (none (command_of found) is)
+misused_ends brought words (Ok found) end is ends exactly (inr (command, reads, lacks)) =
+    inl (exactly.1 (subst (λ c. LacksFormat brought (plan c)) (at_most_one words command (command_of found) reads is) lacks))
+misused_ends brought words (Err error) end is ends exactly misused = failure_ends error end ends
+
+-- and no other call ends so
+pub only_misused : (brought : Brought) (words : List (List ℕ)) (read : Result Declared WordsError) (end : End) → IfOk read (λ command. IsCommand words (command_of command))
+    → (IsErrOf read error.Usage → HasNoCommand words) → IfErr read (λ error. end ≡ failed (words_failure error))
+    → IfOk read (λ command. (end_status end ≡ status.Usage) ↔ LacksFormat brought (plan (command_of command))) → end_status end ≡ status.Usage → AreMisused words brought
+only_misused brought words (Ok found) end is none ends exactly usage = inr (command_of found, is, exactly.0 usage)
+only_misused brought words (Err error.Usage) end is none ends exactly usage = inl (none refl)
+only_misused brought words (Err error.NoMemory) end is none ends exactly usage = absurd (cc (sym (ap end_status ends) ∙ usage))
 
 -- ---- what is left of the formats
 

@@ -1,5 +1,5 @@
 -- What a call answers and leaves behind, by its outcome.
-use Rattle.std.specs.Prelude.{◌≡◌, ◌⊎◌, ℕ, List, [], ◌∷◌, ◌++◌, Option, Contains}
+use Rattle.std.specs.Prelude.{◌≡◌, ◌⊎◌, ℕ, List, [], ◌∷◌, ◌++◌, Option, Contains, Err}
 use Rattle.std.specs.Io.KnownBytes.{append_known}
 use Rattle.redl_io.specs.Shelf.{Files, Lacks, ask_more}
 use Rattle.redl_io.specs.Sink.{GrowsByFront}
@@ -8,11 +8,12 @@ use Rattle.redl_inputs.specs.Readers.{Reader, IsReader}
 use Rattle.redl_inputs.specs.Reading.{MayHold}
 use Rattle.redl_commands.specs.Writing.{Outcome}
 use Rattle.redl_lines.specs.Ends.{Tells}
+use Rattle.redl_lines.specs.Failures.{caused, no_format}
 use Rattle.redl_lines.specs.Lines.{no_memory_line, unwritten_line, unread_line}
 use Rattle.redl_outcome.specs.Files.{asked_by, files_of}
 use Rattle.redl_outcome.specs.Brought.{Brought}
-use Rattle.redl_outcome.specs.Plans.{plan}
-use Rattle.redl_words.specs.Commands.{Command, IsCommand}
+use Rattle.redl_outcome.specs.Plans.{Plan, has_asked, plan}
+use Rattle.redl_words.specs.Commands.{Command, HasNoCommand, IsCommand}
 use Rattle.redl_lines.specs.declared.status.Status.{Status}
 use Rattle.redl_lines.specs.declared.status.Status.TheVariants as status
 
@@ -45,6 +46,14 @@ pub record IsFileOf (words : List (List ℕ)) (brought : Brought) (name : List �
   pub command : Command
   pub reads : IsCommand words command
   pub among : Contains (files_of brought (plan command)) name
+
+-- a command with this plan asks for a format that is not there
+abbrev pub LacksFormat : Brought → Plan → Type 0
+LacksFormat brought plan = (name : List ℕ) × (has_asked brought plan ≡ Err (caused (no_format name)))
+
+-- the words are those of no command, or of one that asks for a format that is not there
+abbrev pub AreMisused : List (List ℕ) → Brought → Type 0
+AreMisused words brought = HasNoCommand words ⊎ ((command : Command) × IsCommand words command × LacksFormat brought (plan command))
 
 -- a read fault's line: the outcome's, where that is a read fault itself, or that of some file of the command where a fetch
 -- failed

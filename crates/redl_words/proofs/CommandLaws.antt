@@ -858,7 +858,7 @@ command_utf8 words (resume p q firsts journals) h u =
     let each : AllByRecursion IsUtf8 (flat_map sitting_words h.named) = subst (AllByRecursion IsUtf8) h.journals_written v.1.1.1 in
     (v.1.0, v.1.1.0, all_utf8 firsts (firsts_of h.named) (firsts_utf8 h.named each) h.firsts_are, all_utf8 journals (seconds_of h.named) (seconds_utf8 h.named each) h.journals_are)
 command_utf8 words (join journals) h u =
-    let v : AllByRecursion IsUtf8 (codes "join" ∷ journals) = subst (AllByRecursion IsUtf8) h.written u in All-from_recursion IsUtf8 journals v.1
+    let v : AllByRecursion IsUtf8 (codes "join" ∷ journals) = subst (AllByRecursion IsUtf8) h.written u in (All-from_recursion IsUtf8 journals v.1, h.some)
 command_utf8 words (check p) h u = let v : AllByRecursion IsUtf8 (codes "check" ∷ p ∷ []) = subst (AllByRecursion IsUtf8) h.written u in v.1.0
 command_utf8 words (sample number) h u = tt
 

@@ -190,7 +190,7 @@ LockHasUtf8 (Author name) = IsUtf8 name
 LockHasUtf8 (Kind of_kind) = Unit {0}
 LockHasUtf8 (Span start end) = Unit {0}
 
--- the texts of the command are UTF-8, its reviewer is one that a journal may hold, and so is its rank
+-- the texts of the command are UTF-8, its reviewer is one that a journal may hold, and so is its rank; a union is of some journal
 abbrev pub HasUtf8 : Command → Type 0
 HasUtf8 (settle accept p) = IsUtf8 p
 HasUtf8 (view_text p view) = IsUtf8 p
@@ -200,6 +200,6 @@ HasUtf8 (report p name by_kind locks journals) = IsUtf8 p × IsUtf8 name × All 
 HasUtf8 (write p locks journals) = IsUtf8 p × All LockHasUtf8 locks × All IsUtf8 journals
 HasUtf8 (decide p reviewer journals locks choices number) = IsUtf8 p × IsReviewer reviewer × All IsUtf8 journals × All LockHasUtf8 locks × (number ≤ 9)
 HasUtf8 (resume p q firsts journals) = IsUtf8 p × IsUtf8 q × All IsUtf8 firsts × All IsUtf8 journals
-HasUtf8 (join journals) = All IsUtf8 journals
+HasUtf8 (join journals) = All IsUtf8 journals × (journals ≢ [])
 HasUtf8 (check p) = IsUtf8 p
 HasUtf8 (sample number) = Unit {0}

@@ -13,6 +13,7 @@ returns-clause-answers g c = with_reports
     (record {
       status = c.run_by.ensures.status;
       usage = c.run_by.ensures.usage;
+      only_usage = c.run_by.ensures.only_usage;
       read = c.run_by.ensures.read;
       write = c.run_by.ensures.write;
       asked = c.run_by.ensures.asked;

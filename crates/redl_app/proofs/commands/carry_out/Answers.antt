@@ -18,8 +18,11 @@ put_page-requires g c = (rw c.in-Page.is at c.requires.utf8).4
 pub write_package-requires : goal.write_package-requires
 write_package-requires g c = rw c.deref-in-Write.ensures.value (rw c.in-Write.is at c.requires.utf8).2
 
-pub join_files-requires : goal.join_files-requires
-join_files-requires g c = rw c.deref-in-Join.ensures.value (rw c.in-Join.is at c.requires.utf8)
+pub join_files-requires-clause-utf8 : goal.join_files-requires-clause-utf8
+join_files-requires-clause-utf8 g c = rw c.deref-in-Join.ensures.value (rw c.in-Join.is at c.requires.utf8).0
+
+pub join_files-requires-clause-some : goal.join_files-requires-clause-some
+join_files-requires-clause-some g c = rw c.deref-in-Join.ensures.value (rw c.in-Join.is at c.requires.utf8).1
 
 pub returns-in-Settle-clause-ends : goal.returns-in-Settle-clause-ends
 returns-in-Settle-clause-ends g c = record {

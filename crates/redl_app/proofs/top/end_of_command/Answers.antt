@@ -1,10 +1,11 @@
 use Rattle.std.proofs.Common.{◌≡◌, Err, None, Ok, Some, ap, refl, sym, ◌∙◌}
 use Rattle.std.specs.Option.{option_copied}
-use Rattle.redl_outcome.proofs.FormatLaws.{asked_is_no_file, ends_after, ends_at_once}
+use Rattle.redl_outcome.proofs.FormatLaws.{ends_after, ends_at_once, has_its_format, lacks_format}
 use Rattle.redl_outcome.proofs.PlanLaws.{reads_alone, reads_no_package, reads_package}
 use Rattle.redl_outcome.specs.Files.{file_names}
 use Rattle.redl_outcome.specs.Plans.{has_asked, made_by, package_of, plan}
-use Rattle.redl_lines.specs.Failures.{failure_view}
+use Rattle.redl_lines.specs.Failures.{failure_view, misuse_cause}
+use Rattle.redl_lines.specs.declared.end.End.TheVariants.{Failed}
 use Rattle.redl_words.specs.Views.{command_of}
 use Rattle.redl_app.proofs.top.end_of_command.Goals as goal
 
@@ -12,9 +13,12 @@ pub returns-in-Err-clause-ends : goal.returns-in-Err-clause-ends
 returns-in-Err-clause-ends g c =
     let brought = g.B.Brings.brought c.args.brings.now in
     let asked = plan (command_of c.args.command.now) in
-    let absent : has_asked brought asked ≡ Err (failure_view c.in-Err.failure) = sym c.in-Err.ensures.asked in
-    ends_at_once _ _ (has_asked brought asked) (file_names asked) (λ reader files. made_by reader files brought asked.makes) (failure_view c.in-Err.failure)
-    absent (asked_is_no_file brought.formats brought.reports asked.format asked.report (failure_view c.in-Err.failure) absent)
+    ends_at_once _ _ (has_asked brought asked) (file_names asked) (λ reader files. made_by reader files brought asked.makes) (misuse_cause c.in-Err.misuse)
+    (sym c.in-Err.ensures.asked)
+
+pub returns-in-Err-clause-usage : goal.returns-in-Err-clause-usage
+returns-in-Err-clause-usage g c =
+    lacks_format (g.B.Brings.brought c.args.brings.now) (plan (command_of c.args.command.now)) (misuse_cause c.in-Err.misuse) (sym c.in-Err.ensures.asked)
 
 pub returns-in_default-package-clause-ends : goal.returns-in_default-package-clause-ends
 returns-in_default-package-clause-ends g c =
@@ -28,6 +32,10 @@ returns-in_default-package-clause-ends g c =
       reads = reads_alone brought asked.makes asked.journals none c.carry_out.ensures.ends.reads;
       finishes = c.carry_out.ensures.ends.finishes;
     })
+
+pub returns-in_default-package-clause-usage : goal.returns-in_default-package-clause-usage
+returns-in_default-package-clause-usage g c =
+    has_its_format (g.B.Brings.brought c.args.brings.now) (plan (command_of c.args.command.now)) c.carry_out.result (sym c.in_default.ensures.asked)
 
 pub returns-in-Ok-clause-ends : goal.returns-in-Ok-clause-ends
 returns-in-Ok-clause-ends g c =
@@ -43,6 +51,10 @@ returns-in-Ok-clause-ends g c =
       finishes = c.carry_out-in-Ok.ensures.ends.finishes;
     })
 
+pub returns-in-Ok-clause-usage : goal.returns-in-Ok-clause-usage
+returns-in-Ok-clause-usage g c =
+    has_its_format (g.B.Brings.brought c.args.brings.now) (plan (command_of c.args.command.now)) c.carry_out-in-Ok.result (sym c.in_default.ensures.asked)
+
 pub returns-in-Err-fetch_package-clause-ends : goal.returns-in-Err-fetch_package-clause-ends
 returns-in-Err-fetch_package-clause-ends g c =
     let brought = g.B.Brings.brought c.args.brings.now in
@@ -55,3 +67,7 @@ returns-in-Err-fetch_package-clause-ends g c =
       reads = reads_no_package brought asked.makes asked.journals c.in-Some.name.now some c.in-Err-fetch_package.ensures;
       finishes = (refl, refl, refl);
     })
+
+pub returns-in-Err-fetch_package-clause-usage : goal.returns-in-Err-fetch_package-clause-usage
+returns-in-Err-fetch_package-clause-usage g c =
+    has_its_format (g.B.Brings.brought c.args.brings.now) (plan (command_of c.args.command.now)) (Failed c.in-Err-fetch_package.failure) (sym c.in_default.ensures.asked)

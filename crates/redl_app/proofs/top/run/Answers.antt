@@ -4,6 +4,12 @@ use Rattle.redl_app.proofs.top.run.Goals as goal
 pub returns-clause-status : goal.returns-clause-status
 returns-clause-status g c = rw (c.replace.ensures.value, c.replace-2.ensures.value) at c.run_by-status.ensures.status
 
+pub returns-clause-usage : goal.returns-clause-usage
+returns-clause-usage g c = rw (c.replace.ensures.value, c.replace-2.ensures.value) at c.run_by-status.ensures.usage
+
+pub returns-clause-only_usage : goal.returns-clause-only_usage
+returns-clause-only_usage g c = rw (c.replace.ensures.value, c.replace-2.ensures.value) at c.run_by-status.ensures.only_usage
+
 pub returns-clause-read : goal.returns-clause-read
 returns-clause-read g c = rw (c.replace.ensures.value, c.replace-2.ensures.value) at c.run_by-status.ensures.read
 
