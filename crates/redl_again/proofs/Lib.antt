@@ -1,0 +1,3 @@
+pub mod DepthLaws
+pub mod TextLaws
+pub mod MeetingLaws
