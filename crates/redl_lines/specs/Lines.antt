@@ -10,7 +10,9 @@ use Rattle.redl_lines.specs.declared.failure.Limit.TheVariants.{PackageBytes, Jo
 use Rattle.redl_lines.specs.declared.failure.PackageFault.{PackageFault}
 use Rattle.redl_lines.specs.declared.failure.PackageFault.TheVariants.{NotReadable, NotPackage, PartShape, NoDocument, Rule}
 use Rattle.redl_lines.specs.declared.note.Note.{Note}
-use Rattle.redl_lines.specs.declared.note.Note.TheVariants.{Undecided, Gone}
+use Rattle.redl_lines.specs.declared.note.Note.TheVariants.{Undecided, Gone, NotAgain}
+use Rattle.redl_lines.specs.declared.note.Obstacle.{Obstacle}
+use Rattle.redl_lines.specs.declared.note.Obstacle.TheVariants as obstacle
 use Rattle.redl_kinds.specs.declared.lock.Lock.{Lock}
 use Rattle.redl_kinds.specs.declared.lock.Lock.TheVariants as lock
 use Rattle.redl_session.specs.declared.refusal.AdmitError.{AdmitError}
@@ -181,7 +183,18 @@ marks_line number = codes "redline: note: " ++ (number ++ (codes " marks are lef
 abbrev pub gone_line : List ℕ → List ℕ
 gone_line number = codes "redline: note: locked revision " ++ (number ++ (codes " went with what was around it" ++ newline))
 
+-- what is so of a result that will not be read again, in words
+abbrev pub obstacle_text : Obstacle → List ℕ
+obstacle_text obstacle.Depth = codes "is deeper than " ++ decimal depth
+obstacle_text obstacle.Bytes = codes "has more than " ++ decimal package_bytes ++ codes " bytes"
+obstacle_text obstacle.Meeting = codes "has texts that meet as ]]>"
+
+-- its line
+abbrev pub not_again_line : Obstacle → List ℕ
+not_again_line why = codes "redline: note: the result " ++ obstacle_text why ++ codes " and will not be read again" ++ newline
+
 -- the line of a note
 abbrev pub note_line : Note → List ℕ
 note_line (Undecided number) = if number == 1 then one_mark_line else marks_line (decimal number)
 note_line (Gone number) = gone_line (decimal number)
+note_line (NotAgain why) = not_again_line why

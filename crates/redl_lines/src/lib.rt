@@ -21,7 +21,7 @@ pub use end::{CallEnd, End};
 pub use failure::{Cause, Failure, Limit, PackageFault};
 pub use lines::tell;
 pub use misuse::Misuse;
-pub use note::Note;
+pub use note::{Note, Obstacle};
 pub use refused::RefusedEntries;
 pub use remarks::Remarks;
 pub use status::Status;

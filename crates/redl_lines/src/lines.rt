@@ -4,7 +4,7 @@ ghost use Rattle.std.specs.Prelude.{◌≡◌, ◌++◌, codes, decimal, OnOk, O
 ghost use Rattle.std.specs.Io.KnownBytes.{append_known};
 ghost use Rattle.std.specs.List.{flat_map};
 ghost use Rattle.redl_lines.specs.Ends.{Tells, call_end_view, end_lines, end_view, remark_lines};
-ghost use Rattle.redl_lines.specs.Lines.{cause_text, decision_text, gone_line, idle_line, marks_line, note_line, one_mark_line, ranked_text, refused_line, bar_text as bar_text_of, why_text as why_text_of};
+ghost use Rattle.redl_lines.specs.Lines.{cause_text, decision_text, gone_line, idle_line, marks_line, not_again_line as not_again_line_of, note_line, one_mark_line, ranked_text, refused_line, bar_text as bar_text_of, why_text as why_text_of};
 ghost use Rattle.redl_lines.specs.Remarks.{remarks_view};
 ghost use Rattle.redl_io.specs.Sink.{Puts, GrowsByFront, CountsPut};
 ghost use Rattle.redl_journal.specs.Journals.{word_text};
@@ -12,7 +12,7 @@ ghost use Rattle.redl_journal.specs.Journals.{word_text};
 use crate::causes::{write_failure, write_misuse};
 use crate::end::{CallEnd, End};
 use crate::named::write_named;
-use crate::note::Note;
+use crate::note::{Note, Obstacle};
 use crate::refused::RefusedEntries;
 use crate::remarks::Remarks;
 use itoa::Buffer;
@@ -192,6 +192,7 @@ fn write_note<K: Sink>(note: &Note, err: &mut K) -> Result<(), Failed>
     match note {
         Note::Undecided(number) => write_undecided(*number, err),
         Note::Gone(number) => write_gone(*number, err),
+        Note::NotAgain(why) => put_piece(not_again_line(*why), err),
     }
 }
 
@@ -210,6 +211,22 @@ fn write_gone<K: Sink>(number: u32, err: &mut K) -> Result<(), Failed>
 {
     let mut digits = Buffer::new();
     write_locked(digits.format(number), err)
+}
+
+fn not_again_line(why: Obstacle) -> &'static [u8]
+    ensures { result.now ≡ not_again_line_of why }
+{
+    match why {
+        Obstacle::Depth => {
+            b"redline: note: the result is deeper than 512 and will not be read again\n"
+        }
+        Obstacle::Bytes => {
+            b"redline: note: the result has more than 134217728 bytes and will not be read again\n"
+        }
+        Obstacle::Meeting => {
+            b"redline: note: the result has texts that meet as ]]> and will not be read again\n"
+        }
+    }
 }
 
 fn write_locked<K: Sink>(number: &str, err: &mut K) -> Result<(), Failed>

@@ -7,4 +7,17 @@ pub enum Note {
     Undecided(u64),
     /// The revision with this number is locked, and nothing of it is left, since what was around it went.
     Gone(u32),
+    /// What is written will not be read again as a package, for this reason.
+    NotAgain(Obstacle),
+}
+
+/// Why the text of a document will not be read again as a package.
+#[derive(Clone, Copy, Debug, PartialEq, Eq)]
+pub enum Obstacle {
+    /// An element is deeper than a package may have it.
+    Depth,
+    /// It is longer than a package may be.
+    Bytes,
+    /// Texts that meet in it form `]]>`.
+    Meeting,
 }
