@@ -1,1 +1,2 @@
 pub mod NoteLaws
+mod NoteRows

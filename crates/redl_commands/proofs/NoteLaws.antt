@@ -1,5 +1,5 @@
--- Remarks with the note of so many marks.
-use Rattle.std.proofs.Common.{◌≡◌, ◌∙◌, ℕ, List, [], ◌∷◌, ◌++◌, ◌-◌, ◌^◌, ◌==◌, min, ap, sym, append-nil, Bool, true, false, refl}
+-- Remarks with the note of so many marks, and with notes of what keeps a text from being read again.
+use Rattle.std.proofs.Common.{◌≡◌, ◌∙◌, ℕ, List, [], ◌∷◌, ◌++◌, ◌-◌, ◌^◌, ◌==◌, min, ap, sym, append_assoc, append-nil, Bool, true, false, refl}
 use Rattle.redl_commands.specs.Notes.{marks_noted, notes_of, noting}
 use Rattle.redl_lines.specs.Remarks.{Remarks}
 use Rattle.redl_lines.specs.declared.note.Note.{Note}
@@ -26,3 +26,14 @@ pub marks_are_noted : (remarks : Remarks) (nodes : Nodes) (number : ℕ) (notes 
 marks_are_noted remarks nodes number notes is other added =
     ap (with_notes remarks)
     (added ∙ ap (λ (more : List Note). remarks.notes ++ more) (some_noted number (number == 0) refl other ∙ ap notes_of is))
+
+-- ---- what keeps a text from being read again
+
+-- three more notes, one after the other
+pub noted_each : (one two three start : Remarks) (a b c : List Note) → one ≡ with_notes start (start.notes ++ a) → two ≡ with_notes one (one.notes ++ b)
+    → three ≡ with_notes two (two.notes ++ c) → three ≡ with_notes start (start.notes ++ (a ++ (b ++ c)))
+noted_each one two three start a b c first second third =
+    let mid : two ≡ with_notes start (start.notes ++ (a ++ b)) =
+    second ∙ ap (λ (r : Remarks). with_notes r (r.notes ++ b)) first ∙ ap (with_notes start) (append_assoc start.notes a b) in
+    third ∙ ap (λ (r : Remarks). with_notes r (r.notes ++ c)) mid
+    ∙ ap (with_notes start) (append_assoc start.notes (a ++ b) c ∙ ap (λ (ns : List Note). start.notes ++ ns) (append_assoc a b c))

@@ -1,17 +1,23 @@
--- What a call tells of the document that it writes (our own rule): marks that are left and never decided, and locked revisions of which
--- nothing is left.
-use Rattle.std.specs.Prelude.{ℕ, ◌-◌, ◌^◌, ◌==◌, Bool, not, List, [], ◌∷◌, ◌++◌, filter, map, min, if◌then◌else◌}
+-- What a call tells of the document that it writes (our own rule): marks that are left and never decided, locked revisions of which
+-- nothing is left, and what keeps the document from being read again.
+use Rattle.std.specs.Prelude.{ℕ, ◌-◌, ◌^◌, ◌==◌, Bool, not, nat_lt, List, [], ◌∷◌, ◌++◌, filter, length, map, min, if◌then◌else◌}
 use Rattle.std.specs.List.{list_any}
 use Rattle.redl_commands.specs.Choices.{is_among}
 use Rattle.redl_commands.specs.Writing.{Writing}
 use Rattle.redl_lines.specs.Remarks.{Remarks}
 use Rattle.redl_lines.specs.declared.note.Note.{Note}
-use Rattle.redl_lines.specs.declared.note.Note.TheVariants.{Undecided, Gone}
+use Rattle.redl_lines.specs.declared.note.Note.TheVariants.{Undecided, Gone, NotAgain}
+use Rattle.redl_lines.specs.declared.note.Obstacle.{Obstacle}
+use Rattle.redl_lines.specs.declared.note.Obstacle.TheVariants as obstacle
+use Rattle.redl_io.specs.Limits.{depth, package_bytes}
 use Rattle.redl_index.specs.declared.revision.Revision.{Revision}
 use Rattle.redl_kinds.specs.declared.lock.Lock.{Lock}
 use Rattle.redl_select.specs.Locks.{holds}
 use Rattle.redl_sittings.specs.SecondNumbers.{part_numbers}
+use Rattle.redl_reread_sound.specs.Together.{meet_well}
 use Rattle.redl_tree.specs.Model.Nodes.{Nodes}
+use Rattle.redl_tree.specs.Model.Shapes.{depth_of}
+use Rattle.redl_tree.specs.Model.Text.{text}
 use Rattle.redl_undecided.specs.Undecided.{undecided_marks}
 
 -- a note of so many marks, if there is one
@@ -45,3 +51,22 @@ gone_among nodes numbers = filter (λ number. not (stands nodes number)) numbers
 -- remarks with a note of each of these revisions of which nothing stands among nodes
 abbrev pub noting_gone : Nodes → List ℕ → Remarks → Remarks
 noting_gone nodes numbers remarks = record remarks { notes = remarks.notes ++ map Gone (gone_among nodes numbers) }
+
+-- a note of an obstacle, if it is there
+abbrev pub noted_if : Bool → Obstacle → List Note
+noted_if is_there why = if is_there then NotAgain why ∷ [] else []
+
+-- the notes of nodes whose text will not be read again as a package: an element is deeper than it may be, the text is longer, or stretches
+-- that meet form `]]>`
+abbrev pub again_notes : Nodes → List Note
+again_notes nodes =
+    noted_if (nat_lt depth (depth_of nodes)) obstacle.Depth
+    ++ (noted_if (nat_lt package_bytes (length (text nodes))) obstacle.Bytes ++ noted_if (not (meet_well nodes)) obstacle.Meeting)
+
+-- remarks with the notes of what keeps the text of nodes from being read again
+abbrev pub noting_again : Nodes → Remarks → Remarks
+noting_again nodes remarks = record remarks { notes = remarks.notes ++ again_notes nodes }
+
+-- what is written, a package with these nodes, with the note of the marks among them and those of what keeps it from being read again
+abbrev pub with_result_notes : Nodes → Writing → Writing
+with_result_notes nodes writing = record writing { remarks = noting_again nodes (noting nodes writing.remarks) }

@@ -3,7 +3,7 @@ use Rattle.std.specs.Prelude.{ℕ, Bool, true, false, List, replicate, Result, O
 use Rattle.redl_inputs.specs.Packages.{package_in}
 use Rattle.redl_inputs.specs.Readers.{Reader}
 use Rattle.redl_inputs.specs.Steps.{◌>>=◌}
-use Rattle.redl_commands.specs.Notes.{with_marks}
+use Rattle.redl_commands.specs.Notes.{with_result_notes}
 use Rattle.redl_commands.specs.Writing.{Writing, only_bytes}
 use Rattle.redl_index.specs.Numbers.{package_revisions, numbered_package}
 use Rattle.redl_lines.specs.Failures.{Failure}
@@ -31,9 +31,9 @@ abbrev pub settling : Bool → Say
 settling true = Accept
 settling false = Reject
 
--- what is written of a package, with a note of the marks that are left in it
+-- what is written of a package, with a note of the marks that are left in it and those of what keeps it from being read again
 abbrev pub settled_under : Say → Nodes → Writing
-settled_under say nodes = with_marks (passed (same_says say nodes) nodes) (only_bytes (passed_text (same_says say nodes) nodes))
+settled_under say nodes = with_result_notes (passed (same_says say nodes) nodes) (only_bytes (passed_text (same_says say nodes) nodes))
 
 -- what is written of the package with this text
 abbrev pub settled : Reader → Bool → List ℕ → Result Writing Failure

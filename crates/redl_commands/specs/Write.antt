@@ -3,7 +3,7 @@ use Rattle.std.specs.Prelude.{ℕ, List, Result, Ok}
 use Rattle.redl_inputs.specs.Admission.{Admission, opened}
 use Rattle.redl_inputs.specs.Readers.{Reader}
 use Rattle.redl_inputs.specs.Steps.{◌>>=◌}
-use Rattle.redl_commands.specs.Notes.{locked_numbers, noting_gone, with_marks}
+use Rattle.redl_commands.specs.Notes.{locked_numbers, noting_gone, with_result_notes}
 use Rattle.redl_commands.specs.Writing.{Writing}
 use Rattle.redl_io.specs.Shelf.{Files}
 use Rattle.redl_lines.specs.Failures.{Failure}
@@ -21,11 +21,11 @@ left_text state = text (pass_package (says state) state.nodes)
 abbrev pub left_nodes : SessionState → Nodes
 left_nodes state = pass_package (says state) state.nodes
 
--- the package after the verdicts, with the remarks of the session, a note of each locked revision that went, and one of the marks that are
--- left in the package
+-- the package after the verdicts, with the remarks of the session, a note of each locked revision that went, one of the marks that are left
+-- in the package, and those of what keeps it from being read again
 abbrev pub resolved : List Lock → Admission → Writing
 resolved locks admission =
-    with_marks (left_nodes admission.state) (record {
+    with_result_notes (left_nodes admission.state) (record {
       bytes = left_text admission.state;
       remarks = noting_gone (left_nodes admission.state) (locked_numbers locks admission.state.revisions) admission.remarks;
     })

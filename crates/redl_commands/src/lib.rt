@@ -13,5 +13,5 @@ mod notes;
 mod output;
 
 pub use collected::Collected;
-pub use notes::note_marks;
+pub use notes::{note_again, note_marks};
 pub use output::{Output, Writing, put};

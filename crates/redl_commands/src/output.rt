@@ -4,7 +4,7 @@ ghost use Rattle.std.specs.Prelude.{◌≡◌, [], IfOk, OnOk, OnErr};
 ghost use Rattle.std.specs.Io.KnownBytes.{append_known};
 ghost use Rattle.redl_commands.specs.Check.{sound_text};
 ghost use Rattle.redl_commands.specs.Endings.{Finishes};
-ghost use Rattle.redl_commands.specs.Notes.{with_marks};
+ghost use Rattle.redl_commands.specs.Notes.{with_result_notes};
 ghost use Rattle.redl_commands.specs.Views.{output_text, writing_view};
 ghost use Rattle.redl_commands.specs.Writing.{only_bytes};
 ghost use Rattle.redl_inputs.specs.Views.{result_view};
@@ -14,7 +14,7 @@ ghost use Rattle.redl_lines.specs.Remarks.{remarks_view};
 ghost use Rattle.redl_tree.specs.Model.Text.{text};
 ghost use Rattle.redl_tree.specs.Model.View.{nodes_of};
 
-use crate::notes::note_marks;
+use crate::notes::{note_again, note_marks};
 use itoa::Buffer;
 use redl_inputs::DocumentId;
 use redl_io::{Failed, Sink, Staged, put_piece, put_pieces};
@@ -61,13 +61,15 @@ impl<'b> Writing<'b> {
         }
     }
 
-    /// The package with these nodes, and a note of the marks in it that are never decided. `Err` means out of memory.
+    /// The package with these nodes, a note of the marks in it that are never decided, and one of each obstacle to that it is read again.
+    /// `Err` means out of memory.
     pub fn package(nodes: Vec<Node<'b>>, remarks: Remarks) -> Result<Writing<'b>, AllocError>
         ensures { IfOk result (λ writing. writing_view writing
-            ≡ with_marks (nodes_of nodes.entry.items) (record { bytes = text (nodes_of nodes.entry.items); remarks = remarks_view remarks })) }
+            ≡ with_result_notes (nodes_of nodes.entry.items) (record { bytes = text (nodes_of nodes.entry.items); remarks = remarks_view remarks })) }
     {
         let mut remarks = remarks;
         note_marks(&mut remarks, &nodes)?;
+        note_again(&mut remarks, &nodes)?;
         Ok(Writing {
             output: Output::Package(nodes),
             remarks,

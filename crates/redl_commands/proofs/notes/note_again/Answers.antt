@@ -1,9 +1,9 @@
-use Rattle.std.proofs.Common.{◌≡◌, ◌∙◌, ◌++◌, ap, nat_lt, length}
+use Rattle.std.proofs.Common.{◌∙◌, ◌++◌, ap, nat_lt, length}
 use Rattle.std.specs.Prelude.{not}
 use Rattle.redl_commands.proofs.NoteLaws.{noted_each, with_notes}
 use Rattle.redl_commands.specs.Notes.{noted_if}
 use Rattle.redl_io.specs.Limits.{depth, package_bytes}
-use Rattle.redl_lines.specs.Remarks.{Remarks, remarks_view}
+use Rattle.redl_lines.specs.Remarks.{remarks_view}
 use Rattle.redl_lines.specs.declared.note.Obstacle.TheVariants as obstacle
 use Rattle.redl_reread_sound.specs.Together.{meet_well}
 use Rattle.redl_tree.specs.Model.Shapes.{depth_of}

@@ -1,5 +1,5 @@
 use Rattle.std.proofs.Common.{◌≡◌, ◌∙◌, ℕ, List, ap, subst, IfOk}
-use Rattle.redl_commands.specs.Notes.{locked_numbers, noting_gone, with_marks}
+use Rattle.redl_commands.specs.Notes.{locked_numbers, noting_gone, with_result_notes}
 use Rattle.redl_commands.specs.Views.{writing_view}
 use Rattle.redl_commands.specs.Write.{left_nodes}
 use Rattle.redl_lines.specs.Remarks.{Remarks, remarks_view}
@@ -20,5 +20,5 @@ returns c =
     ∙ ap (λ (nodes : Nodes). noting_gone nodes c.deref.result.now before) (ap nodes_of c.deref-2.ensures.value ∙ left)
     ∙ ap (λ (ns : List ℕ). noting_gone (left_nodes state) ns before) numbers in
     let Makes : Nodes → Remarks → Type 0 =
-    λ nodes remarks. IfOk c.package.result (λ writing. writing_view writing ≡ with_marks nodes (record { bytes = text nodes; remarks = remarks })) in
+    λ nodes remarks. IfOk c.package.result (λ writing. writing_view writing ≡ with_result_notes nodes (record { bytes = text nodes; remarks = remarks })) in
     subst (Makes (left_nodes state)) told (subst (λ (nodes : Nodes). Makes nodes (remarks_view c.note_gone.new.remarks)) left c.package.ensures)
