@@ -7,6 +7,7 @@ pub mod Packages
 pub mod Mapped
 pub mod Resumed
 pub mod Second
+pub mod Told
 pub mod EmptyMoves
 pub mod Settled
 pub mod Orders

@@ -62,7 +62,7 @@ is-package reader text nodes is reading shallow few shape keeps =
     ∙ ap (λ (o : Option ℕ). sound_unless o nodes) (none_broken 1 rules (stories nodes) keeps)
 
 -- what is left of a package that was read, where it can be read again
-left-again : (reader : Reader) (files : Files) (made : Plan) (p wrote : List ℕ) → IsReader reader → (l : IsLeft reader files made p wrote) → CanBeRead (left_of l.says l.nodes)
+pub left-again : (reader : Reader) (files : Files) (made : Plan) (p wrote : List ℕ) → IsReader reader → (l : IsLeft reader files made p wrote) → CanBeRead (left_of l.says l.nodes)
     → package_in reader wrote ≡ Ok (again (left_of l.says l.nodes))
 left-again reader files made p wrote is l can =
     let reading = reads_package reader l.whole l.nodes is l.original in
@@ -84,7 +84,7 @@ checks reader files brought name text nodes words file read is_check =
     ∙ ap (λ (made : Result (List ℕ) Failure). made >>= checked reader) file
     ∙ ap (λ (made : Result Nodes Failure). made >>= (λ nodes. let r : Result Writing Failure = Ok (counted nodes) in r)) read
 
-is-second : (reader : Reader) (files : Files) (brought : Brought) (name text : List ℕ) (nodes : Nodes) → package_file files name ≡ Ok text → package_in reader text ≡ Ok nodes
+pub is-second : (reader : Reader) (files : Files) (brought : Brought) (name text : List ℕ) (nodes : Nodes) → package_file files name ≡ Ok text → package_in reader text ≡ Ok nodes
     → IsSecond reader files brought name nodes
 is-second reader files brought name text nodes file read = record {
   package_ = ap (λ (made : Result (List ℕ) Failure). made >>= package_in reader) file ∙ read;

@@ -3,3 +3,4 @@ pub mod Rounds
 pub mod Second
 pub mod Settled
 pub mod Orders
+pub mod Told

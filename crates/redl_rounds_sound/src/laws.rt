@@ -7,6 +7,7 @@ ghost use Rattle.redl_rounds_sound.specs.Orders.{OrderIsFree};
 ghost use Rattle.redl_rounds_sound.specs.Rounds.{AlikeIsSettled, JoinedStandFor, ResumedStandsFor};
 ghost use Rattle.redl_rounds_sound.specs.Second.{LeftIsTakenAgain};
 ghost use Rattle.redl_rounds_sound.specs.Settled.{OnlyEmptyMoves, SettledIsCounted};
+ghost use Rattle.redl_rounds_sound.specs.Told.{TakenUnlessTold};
 
 /// A joined journal stands for those that it joins.
 ///
@@ -35,6 +36,14 @@ pub fn alike_is_settled()
 /// status 0, and tells how many revisions what was left has.
 pub fn left_is_taken_again()
     ensures { (reader : Reader) → IsReader reader → (files : Files) (brought : Brought) → LeftIsTakenAgain reader files brought }
+{}
+
+/// What `settle` or `write` wrote of a package is a package again, unless the call told that it will not be read again.
+///
+/// Its last lines are the notes on that: what was left is deeper or longer than a package may be, or stretches that meet in it form `]]>`.
+/// Where there is none, `check` takes what was written.
+pub fn taken_unless_told()
+    ensures { (reader : Reader) → IsReader reader → (files : Files) (brought : Brought) → TakenUnlessTold reader files brought }
 {}
 
 /// What `check` counts after `settle` are moves without members: range markers that pair only when all around them is settled.

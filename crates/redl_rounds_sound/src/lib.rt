@@ -8,5 +8,5 @@ mod laws;
 
 pub use laws::{
     alike_is_settled, joined_stand_for, left_is_taken_again, order_is_free, resumed_stands_for,
-    settled_is_counted,
+    settled_is_counted, taken_unless_told,
 };
