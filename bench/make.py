@@ -12,6 +12,7 @@
                                                  the same, and of each journal every second entry has rank 1
     python3 make.py shape NAME FILE [SCALE]      a document of 6 to 60 MB of an unusual shape, or so many times as large
     python3 make.py deep NAME FILE               a sound document whose elements stand 512 deep, as deep as they may
+    python3 make.py grown BYTES FILE             a document of some 80 MB of which `settle accept` makes so many bytes, 128 MiB or more
     python3 make.py text NAME FILE               a text that is deep, wide or long, and no package
 """
 import hashlib
@@ -218,6 +219,7 @@ SHAPES = {
 }
 
 
+DELETED_MARK = '<w:p><w:pPr><w:rPr><w:del w:id="1"/></w:rPr></w:pPr></w:p>'
 BODY = 5  # so deep in the elements of its package the body of a document stands
 DEEPEST = 512
 
@@ -261,6 +263,21 @@ DEEP = {
     % around(("<w:tabs>", "</w:tabs>"), "<w:tab/>", DEEPEST - BODY - 5),
 }
 
+# between two paragraphs that are joined, so that they stand one deeper then
+DEEP["joined"] = lambda: DELETED_MARK + around(("<w:smartTag>", "</w:smartTag>"), "", DEEPEST - BODY) + "<w:p/>"
+DEEP["less"] = lambda: DELETED_MARK + around(("<w:smartTag>", "</w:smartTag>"), "", DEEPEST - BODY - 1) + "<w:p/>"
+
+LONG = "l" * 300  # a prefix, which an end tag has too
+
+
+def grown(size):
+    """Pairs of paragraphs that are joined, of which the second one has no end tag before that."""
+    front = FRONT.replace("<w:document ", '<w:document xmlns:%s="http://schemas.openxmlformats.org/wordprocessingml/2006/main" ' % LONG)
+    last = "<w:p><w:r><w:t>%s</w:t></w:r></w:p>"
+    times, rest = divmod(size - len(front + last % "" + BACK), len("<%s:p></%s:p>" % (LONG, LONG)))
+    return front + (DELETED_MARK + "<%s:p/>" % LONG) * times + last % ("x" * rest) + BACK
+
+
 HEAD = "redline-journal 1\ndocument %s\nrevisions 3\n" % hashlib.sha256(b"").hexdigest()
 NAMES = "".join(' a%d=""' % i for i in range(200000))
 TEXTS = {
@@ -303,6 +320,7 @@ def main(form, value, *rest):
         "nodes": lambda: nodes(int(value)),
         "shape": lambda: shape(value, *map(float, rest[1:])),
         "deep": lambda: FRONT + DEEP[value]() + BACK,
+        "grown": lambda: grown(int(value)),
         "text": lambda: TEXTS[value](),
     }[form]()
     save(rest[1] if form == "script" else rest[0], made)
