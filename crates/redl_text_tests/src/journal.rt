@@ -152,17 +152,14 @@ fn ranks_of_0_are_written_in_version_1(rt: HostRuntime) -> Result<(), Fail> {
     Ok(())
 }
 
-// Whether a copy of the entry has these values.
+// Whether a copy of the entry has these values: its sequence number, revision, word, rank and reviewer.
 fn has_copy(
     alloc: Global,
     entry: &Entry,
-    seq: u32,
-    rev: u32,
-    word: Word,
-    rank: u8,
-    reviewer: &[u8],
+    wanted: (u32, u32, Word, u8, &[u8]),
 ) -> Result<bool, AllocError> {
     let copy = entry.copy(alloc)?;
+    let (seq, rev, word, rank, reviewer) = wanted;
     Ok(
         (copy.seq, copy.rev, copy.rank) == (seq, rev, rank)
             && copy.word == word
@@ -177,14 +174,11 @@ fn entries_are_read_field_by_field(rt: HostRuntime) -> Result<(), Fail> {
     let journal = read(rt.alloc(), &text)?;
     let head = (journal.count, journal.digest[0], journal.digest[31]);
     assert!(rt; head == (300, 0xe3, 0x55), "{head:?}");
-    for (entry, (seq, rev, word, rank, reviewer)) in journal.entries.iter().zip([
+    for (entry, wanted) in journal.entries.iter().zip([
         (7, 205, Word::Reject, 0, b"Bob".as_slice()),
         (12, 0, Word::Accept, 7, b"Ann B"),
     ]) {
-        assert!(rt;
-            has_copy(rt.alloc(), entry, seq, rev, word, rank, reviewer)?,
-            "{seq}"
-        );
+        assert!(rt; has_copy(rt.alloc(), entry, wanted)?, "{}", wanted.0);
     }
     Ok(())
 }
