@@ -1,9 +1,9 @@
 //! What the program brings to a call, as one word: its formats of listings and of reports, and its skin of pages.
 
-ghost use Rattle.std.specs.Prelude.{◌≡◌, List, ℕ, All, IsOk, IsUtf8, Ok};
+ghost use Rattle.std.specs.Prelude.{◌≡◌, List, ℕ, All, IfOk, IsUtf8, Some};
 ghost use Rattle.redl_commands.specs.Views.{writing_view};
 ghost use Rattle.redl_commands.specs.Writing.{outcome_of};
-ghost use Rattle.redl_commands_shown.specs.Formats.{AreFresh, LeavesFormats, format_named, has_format, whether};
+ghost use Rattle.redl_commands_shown.specs.Formats.{AreFresh, IsPlaceAsked, LeavesFormats, place_named};
 ghost use Rattle.redl_commands_shown.specs.List.{listed};
 ghost use Rattle.redl_commands_shown.specs.Report.{reported};
 ghost use Rattle.redl_formats.specs.Formats.{without_named};
@@ -16,7 +16,7 @@ ghost use Rattle.redl_page.specs.PageViews.{skin_view};
 ghost use Rattle.redl_words.specs.Commands.{HasUtf8};
 ghost use Rattle.redl_words.specs.Views.{command_of, onlys_view};
 
-use crate::formats::{check_format, check_report};
+use crate::formats::{find_format, find_report};
 use crate::plan::{format, report};
 use redl_commands::Writing;
 use redl_commands_list::{list_package, report_package};
@@ -52,28 +52,29 @@ pub(crate) trait Brings {
     // No format is closed or has a row or a line.
     ghost is_fresh: { Self → Type 0 };
 
-    /// Whether there is the format that the command asks for, if it asks for one.
-    fn check<'a>(&self, command: &'a Command) -> Result<(), Misuse<'a>>
+    /// The places of the formats that the command asks for, which are there.
+    fn find<'a>(&self, command: &'a Command) -> Result<FormatPlaces, Misuse<'a>>
         requires { HasUtf8 (command_of command.now) }
-        ensures there { IsOk result → (has_format (brought self.now).formats (plan (command_of command.now)).format ≡ Ok tt)
-            × (has_format (brought self.now).reports (plan (command_of command.now)).report ≡ Ok tt) }
-        ensures asked { asked_view (λ _. tt) result ≡ has_asked (brought self.now) (plan (command_of command.now)) };
+        ensures asked { asked_view (λ _. tt) result ≡ has_asked (brought self.now) (plan (command_of command.now)) }
+        ensures format { IfOk result (λ places. IsPlaceAsked format_title (plan (command_of command.now)).format (formats self.now) places.format) }
+        ensures report { IfOk result (λ places. IsPlaceAsked report_title (plan (command_of command.now)).report (reports self.now) places.report) };
 
     /// The skin of pages.
     fn skin(&self) -> &Skin<'_>
         ensures { skin_view result.now ≡ (brought self.now).skin };
 
-    /// Does `list`, and takes the format that it asks for.
+    /// Does `list`, and takes the format at this place, which it asks for.
     fn list<'a, 'b, F: Shelf>(
         &mut self,
         alloc: Global,
         command: &'a ListCommand,
+        place: usize,
         bytes: &'b [u8],
         shelf: &mut F,
     ) -> Result<Writing<'b>, Failure<'a>>
         requires name { IsUtf8 command.now.format }
         requires utf8 { All IsUtf8 command.now.journals.items }
-        requires there { whether (format_named (brought self.old).formats command.now.format) ≡ Ok tt }
+        requires place { place_named format_title command.now.format (formats self.old) ≡ Some place }
         requires fresh { is_fresh self.old }
         ensures read { ReadsFiles F.told F.faults F.asked shelf.old shelf.new command.now.journals.items
             (result_view writing_view result) (λ reader files. listed reader files (brought self.old).formats command.now.format command.now.locks.items command.now.journals.items (onlys_view command.now.only.items) bytes.now) }
@@ -81,23 +82,32 @@ pub(crate) trait Brings {
             (without_named format_title command.now.format (formats self.old)) (formats self.old) (formats self.new) }
         ensures reports { reports self.new ≡ reports self.old };
 
-    /// Does `report`, and takes the format that it asks for.
+    /// Does `report`, and takes the format at this place, which it asks for.
     fn report<'a, 'b, F: Shelf>(
         &mut self,
         alloc: Global,
         command: &'a ReportCommand,
+        place: usize,
         bytes: &'b [u8],
         shelf: &mut F,
     ) -> Result<Writing<'b>, Failure<'a>>
-        requires name { IsUtf8 command.now.format }
         requires utf8 { All IsUtf8 command.now.journals.items }
-        requires there { whether (format_named (brought self.old).reports command.now.format) ≡ Ok tt }
+        requires place { place_named report_title command.now.format (reports self.old) ≡ Some place }
         requires fresh { is_fresh self.old }
         ensures read { ReadsFiles F.told F.faults F.asked shelf.old shelf.new command.now.journals.items
             (result_view writing_view result) (λ reader files. reported reader files (brought self.old).reports command.now.format command.now.by_kind command.now.locks.items command.now.journals.items bytes.now) }
         ensures reports { LeavesFormats (outcome_of (result_view writing_view result)).status
             (without_named report_title command.now.format (reports self.old)) (reports self.old) (reports self.new) }
         ensures formats { formats self.new ≡ formats self.old };
+}
+
+/// Where the formats stand that a command asks for, each among those of its kind.
+#[derive(Clone, Copy)]
+pub(crate) struct FormatPlaces {
+    /// That of listings, if it asks for one.
+    pub(crate) format: Option<usize>,
+    /// That of reports, if it asks for one.
+    pub(crate) report: Option<usize>,
 }
 
 /// Boxed formats and a skin.
@@ -130,9 +140,11 @@ impl Brings for Bringing<'_> {
     ghost is_fresh = { λ b. AreFresh (λ format. (RowFormat-box format).is_closed format.value) (λ format. (RowFormat-box format).rows_so_far format.value) b.formats.items
         × AreFresh (λ format. (ReportFormat-box format).is_ended format.value) (λ format. (ReportFormat-box format).lines_so_far format.value) b.reports.items };
 
-    fn check<'a>(&self, command: &'a Command) -> Result<(), Misuse<'a>> {
-        check_format(format(command), &self.formats)?;
-        check_report(report(command), &self.reports)
+    fn find<'a>(&self, command: &'a Command) -> Result<FormatPlaces, Misuse<'a>> {
+        Ok(FormatPlaces {
+            format: find_format(format(command), &self.formats)?,
+            report: find_report(report(command), &self.reports)?,
+        })
     }
 
     fn skin(&self) -> &Skin<'_> {
@@ -143,19 +155,21 @@ impl Brings for Bringing<'_> {
         &mut self,
         alloc: Global,
         command: &'a ListCommand,
+        place: usize,
         bytes: &'b [u8],
         shelf: &mut F,
     ) -> Result<Writing<'b>, Failure<'a>> {
-        list_package(alloc, command, bytes, shelf, &mut self.formats)
+        list_package(alloc, command, bytes, shelf, &mut self.formats, place)
     }
 
     fn report<'a, 'b, F: Shelf>(
         &mut self,
         alloc: Global,
         command: &'a ReportCommand,
+        place: usize,
         bytes: &'b [u8],
         shelf: &mut F,
     ) -> Result<Writing<'b>, Failure<'a>> {
-        report_package(alloc, command, bytes, shelf, &mut self.reports)
+        report_package(alloc, command, bytes, shelf, &mut self.reports, place)
     }
 }

@@ -1,15 +1,15 @@
 //! How each command is carried out.
 
-ghost use Rattle.std.specs.Prelude.{◌≡◌, Ok};
+ghost use Rattle.std.specs.Prelude.{◌≡◌};
 ghost use Rattle.std.specs.Option.{option_copied};
 ghost use Rattle.redl_commands.specs.Endings.{Ends};
-ghost use Rattle.redl_commands_shown.specs.Formats.{LeavesFormats, has_format, without_asked};
+ghost use Rattle.redl_commands_shown.specs.Formats.{IsPlaceAsked, LeavesFormats, without_asked};
 ghost use Rattle.redl_outcome.specs.Plans.{IsTextFor, made_with, plan};
 ghost use Rattle.redl_lines.specs.Ends.{end_status, end_view};
 ghost use Rattle.redl_words.specs.Commands.{HasUtf8};
 ghost use Rattle.redl_words.specs.Views.{command_of};
 
-use crate::brings::Brings;
+use crate::brings::{Brings, FormatPlaces};
 use redl_commands::put;
 use redl_commands_resume::resume_package;
 use redl_commands_sample::make_sample;
@@ -20,34 +20,56 @@ use redl_lines::End;
 use redl_words::Command;
 use std::alloc::Global;
 
-/// Makes what the command writes and puts it on the output. `text` is its package's, and there is one exactly if the command has
-/// a package. The format that it asks for is there. Each arm puts what it made, which lives no longer than the text.
+/// What was found for a command before it is carried out.
+#[derive(Clone, Copy)]
+pub(crate) struct Found<'t> {
+    /// The text of its package, if it has one.
+    pub(crate) text: Option<&'t [u8]>,
+    /// Where the formats stand that it asks for.
+    pub(crate) places: FormatPlaces,
+}
+
+/// Makes what the command writes and puts it on the output. There is a text exactly if the command has a package. Each arm puts
+/// what it made, which lives no longer than the text.
 pub(crate) fn carry_out<'a, F: Shelf, O: Sink, B: Brings>(
     alloc: Global,
     command: &'a Command,
-    text: Option<&[u8]>,
+    found: Found<'_>,
     shelf: &mut F,
     out: &mut O,
     brings: &mut B,
 ) -> End<'a>
     requires utf8 { HasUtf8 (command_of command.now) }
-    requires text { IsTextFor (plan (command_of command.now)).makes (option_copied text) }
-    requires format { has_format (B.brought brings.old).formats (plan (command_of command.now)).format ≡ Ok tt }
-    requires report { has_format (B.brought brings.old).reports (plan (command_of command.now)).report ≡ Ok tt }
+    requires text { IsTextFor (plan (command_of command.now)).makes (option_copied found.text) }
+    requires format { IsPlaceAsked B.format_title (plan (command_of command.now)).format (B.formats brings.old) found.places.format }
+    requires report { IsPlaceAsked B.report_title (plan (command_of command.now)).report (B.reports brings.old) found.places.report }
     requires fresh { B.is_fresh brings.old }
     ensures ends { Ends F.told F.faults F.asked shelf.old shelf.new O.told O.faults out.old out.new (plan (command_of command.now)).journals
-        (λ reader files. made_with reader files (B.brought brings.old) (plan (command_of command.now)).makes (option_copied text.entry))
+        (λ reader files. made_with reader files (B.brought brings.old) (plan (command_of command.now)).makes (option_copied found.entry.text))
         (end_view result) }
     ensures formats { LeavesFormats (end_status (end_view result))
         (without_asked B.format_title (plan (command_of command.now)).format (B.formats brings.old)) (B.formats brings.old) (B.formats brings.new) }
     ensures reports { LeavesFormats (end_status (end_view result))
         (without_asked B.report_title (plan (command_of command.now)).report (B.reports brings.old)) (B.reports brings.old) (B.reports brings.new) }
 {
+    let Found { text, places } = found;
     match command {
         Command::Settle { accept, .. } => put(settle_package(alloc, *accept, text.unwrap()), out),
         Command::Text { view, .. } => put_text(alloc, *view, text.unwrap(), out),
-        Command::List(command) => put(brings.list(alloc, command, text.unwrap(), shelf), out),
-        Command::Report(command) => put(brings.report(alloc, command, text.unwrap(), shelf), out),
+        Command::List(command) => {
+            let place = places.format.unwrap();
+            put(
+                brings.list(alloc, command, place, text.unwrap(), shelf),
+                out,
+            )
+        }
+        Command::Report(command) => {
+            let place = places.report.unwrap();
+            put(
+                brings.report(alloc, command, place, text.unwrap(), shelf),
+                out,
+            )
+        }
         Command::Page(command) => {
             put_page(alloc, command, text.unwrap(), shelf, brings.skin(), out)
         }

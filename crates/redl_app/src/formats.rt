@@ -1,60 +1,69 @@
-//! The format that a command asks for, of listings or of reports.
+//! The format that a command asks for, of listings or of reports. It is looked up here, before any file is read, and taken at its
+//! place once all is known.
 
-ghost use Rattle.std.specs.Prelude.{◌≡◌};
+ghost use Rattle.std.specs.Prelude.{◌≡◌, IfOk};
 ghost use Rattle.std.specs.Option.{option_copied};
-ghost use Rattle.redl_commands_shown.specs.Formats.{format_named, formats_by, has_format, whether};
+ghost use Rattle.redl_commands_shown.specs.Formats.{IsPlaceAsked, formats_by, has_format, place_named};
 ghost use Rattle.redl_lines.specs.Failures.{asked_view};
 
 use redl_lines::Misuse;
 use redl_listing::{RowFormat, has_name};
 use redl_report::{ReportFormat, has_report_name};
 
-/// Whether there is a format of this name, if one is asked for.
-pub(crate) fn check_format<'a>(
+/// The place of the format of this name, if one is asked for.
+pub(crate) fn find_format<'a>(
     asked: Option<&'a str>,
     formats: &[Box<dyn RowFormat>],
-) -> Result<(), Misuse<'a>>
-    ensures { asked_view (λ _. tt) result ≡ has_format (formats_by format_name text_for formats.now) (option_copied asked.entry) }
+) -> Result<Option<usize>, Misuse<'a>>
+    ensures there { asked_view (λ _. tt) result ≡ has_format (formats_by format_name text_for formats.now) (option_copied asked.entry) }
+    ensures place { IfOk result (λ place. IsPlaceAsked format_name (option_copied asked.entry) formats.now place) }
 {
-    match asked {
-        Some(name) => find_format(name, formats),
-        None => Ok(()),
+    let Some(name) = asked else {
+        return Ok(None);
+    };
+    match place_of(name, formats) {
+        Some(place) => Ok(Some(place)),
+        None => Err(Misuse::NoFormat(name)),
     }
 }
 
-// Whether there is a format of this name.
-fn find_format<'a>(name: &'a str, formats: &[Box<dyn RowFormat>]) -> Result<(), Misuse<'a>>
-    ensures { asked_view (λ _. tt) result ≡ whether (format_named (formats_by format_name text_for formats.now) name.now) }
+// The place of the first format with this name.
+fn place_of(name: &str, formats: &[Box<dyn RowFormat>]) -> Option<usize>
+    ensures { result ≡ place_named format_name name.now formats.now }
 {
-    for format in formats {
-        if has_name(format, name) {
-            return Ok(());
+    for place in 0..formats.len() {
+        if has_name(&formats[place], name) {
+            return Some(place);
         }
     }
-    Err(Misuse::NoFormat(name))
+    None
 }
 
-/// Whether there is a format of reports of this name, if one is asked for.
-pub(crate) fn check_report<'a>(
+/// The place of the format of reports of this name, if one is asked for.
+pub(crate) fn find_report<'a>(
     asked: Option<&'a str>,
     reports: &[Box<dyn ReportFormat>],
-) -> Result<(), Misuse<'a>>
-    ensures { asked_view (λ _. tt) result ≡ has_format (formats_by report_name report_text reports.now) (option_copied asked.entry) }
+) -> Result<Option<usize>, Misuse<'a>>
+    ensures there { asked_view (λ _. tt) result ≡ has_format (formats_by report_name report_text reports.now) (option_copied asked.entry) }
+    ensures place { IfOk result (λ place. IsPlaceAsked report_name (option_copied asked.entry) reports.now place) }
 {
-    match asked {
-        Some(name) => find_report(name, reports),
-        None => Ok(()),
+    let Some(name) = asked else {
+        return Ok(None);
+    };
+    match place_of_report(name, reports) {
+        Some(place) => Ok(Some(place)),
+        None => Err(Misuse::NoFormat(name)),
     }
 }
 
-// Whether there is a format of reports of this name.
-fn find_report<'a>(name: &'a str, reports: &[Box<dyn ReportFormat>]) -> Result<(), Misuse<'a>>
-    ensures { asked_view (λ _. tt) result ≡ whether (format_named (formats_by report_name report_text reports.now) name.now) }
+// The place of the first format of reports with this name.
+fn place_of_report(name: &str, reports: &[Box<dyn ReportFormat>]) -> Option<usize>
+    ensures { result ≡ place_named report_name name.now reports.now }
 {
-    for format in reports {
-        if has_report_name(format, name) {
-            return Ok(());
+    for place in 0..reports.len() {
+        if has_report_name(&reports[place], name) {
+            return Some(place);
         }
     }
-    Err(Misuse::NoFormat(name))
+    None
 }

@@ -23,10 +23,9 @@ pub fn tell_text<O: Sink, E: Sink>(alloc: Global, text: &str, out: &mut O, err: 
 {
     let remarks = Remarks::none(alloc);
     let end = match out.put(text.as_bytes()) {
-        Ok(()) => End::Written(remarks),
-        Err(_) => End::Unwritten(remarks),
+        Ok(()) => CallEnd::Command(End::Written(remarks)),
+        Err(_) => CallEnd::Command(End::Unwritten(remarks)),
     };
-    let end = CallEnd::Command(end);
     tell(&end, err);
     end.status()
 }

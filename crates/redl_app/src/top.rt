@@ -26,7 +26,7 @@ ghost use Rattle.redl_words.specs.Commands.{Command as CommandOf, HasNoCommand, 
 ghost use Rattle.redl_words.specs.Views.{command_of};
 
 use crate::brings::{Bringing, Brings};
-use crate::commands::carry_out;
+use crate::commands::{Found, carry_out};
 use crate::plan::package;
 use redl_inputs::fetch_package;
 use redl_io::{NullSink, Shelf, Sink, SureShelf, Text};
@@ -243,14 +243,22 @@ fn end_of_command<'a, F: Shelf, O: Sink, B: Brings>(
     ensures taken_report { LeavesFormats (end_status (call_end_view result))
         (without_asked B.report_title (plan (command_of command.now)).report (B.reports brings.old)) (B.reports brings.old) (B.reports brings.new) }
 {
-    if let Err(misuse) = brings.check(command) {
-        return CallEnd::Misuse(misuse);
-    }
+    let places = match brings.find(command) {
+        Ok(places) => places,
+        Err(misuse) => return CallEnd::Misuse(misuse),
+    };
     let Some(name) = package(command) else {
-        return CallEnd::Command(carry_out(alloc, command, None, shelf, out, brings));
+        let found = Found { text: None, places };
+        return CallEnd::Command(carry_out(alloc, command, found, shelf, out, brings));
     };
     match fetch_package(alloc, name, shelf) {
-        Ok(text) => CallEnd::Command(carry_out(alloc, command, Some(&text), shelf, out, brings)),
+        Ok(text) => {
+            let found = Found {
+                text: Some(&text),
+                places,
+            };
+            CallEnd::Command(carry_out(alloc, command, found, shelf, out, brings))
+        }
         Err(failure) => CallEnd::Command(End::Failed(failure)),
     }
 }

@@ -1,15 +1,15 @@
 //! `list P` with a format, journals and locks, of all revisions or of those alone that are wanted.
 
-ghost use Rattle.std.specs.Prelude.{◌≡◌, ◌⊎◌, ◌<◌, Bool, true, [], length, slice_get, Ok, Some, All, IsUtf8, IfOk, OnErr, OnOk, if◌then◌else◌};
+ghost use Rattle.std.specs.Prelude.{◌≡◌, ◌<◌, true, [], length, remove, slice_get, Some, All, IsUtf8, IfOk, if◌then◌else◌};
 ghost use Rattle.redl_commands_shown.specs.List.{listed, listing_named, part_names, session_details, session_shown, session_verdicts};
-ghost use Rattle.redl_commands_shown.specs.Formats.{AreFresh, LeavesFormats, format_named, formats_by, whether};
+ghost use Rattle.redl_commands_shown.specs.Formats.{AreFresh, LeavesFormats, formats_by, place_named};
 ghost use Rattle.redl_inputs.specs.Reading.{ReadsFiles, Reads};
 ghost use Rattle.redl_commands.specs.Views.{writing_view};
 ghost use Rattle.redl_inputs.specs.Views.{admission_view, result_view};
 ghost use Rattle.redl_commands.specs.Writing.{outcome_of};
 ghost use Rattle.redl_excerpts.specs.Details.{IsDetail};
 ghost use Rattle.redl_clauses.specs.Clauses.{numbered_details};
-ghost use Rattle.redl_formats.specs.Formats.{IsListed, first_named, without_named};
+ghost use Rattle.redl_formats.specs.Formats.{IsListed, without_named};
 ghost use Rattle.redl_listing.specs.Rows.{shown_rows, shows_details, told_rows};
 ghost use Rattle.redl_opc.specs.Shape.{parts_of};
 ghost use Rattle.redl_words.specs.Views.{onlys_view};
@@ -23,31 +23,31 @@ use redl_inputs::{Admitted, name_of, open_package, read_package};
 use redl_io::{Shelf, Text};
 use redl_join::Verdict;
 use redl_lines::Failure;
-use redl_listing::{Listed, RowFormat, list_told, shows_details};
+use redl_listing::{Listed, RowFormat, list_in, shows_details};
 use redl_opc::Package;
 use redl_session::Session;
 use redl_words::{ListCommand, Only};
 use std::alloc::{AllocError, Global};
 
-/// The listing that the command asks for, of the package with this text, under the joined verdicts of its journals: in the first
-/// format that has the name and is there. It takes that format out of the list.
+/// The listing that the command asks for, of the package with this text, under the joined verdicts of its journals: in the format
+/// at this place, which is the first one that has the name. It takes that format out of the list.
 pub fn list_package<'a, 'b, F: Shelf>(
     alloc: Global,
     command: &'a ListCommand,
     bytes: &'b [u8],
     shelf: &mut F,
     formats: &mut Vec<Box<dyn RowFormat>>,
+    place: usize,
 ) -> Result<Writing<'b>, Failure<'a>>
     requires name { IsUtf8 command.now.format }
     requires utf8 { All IsUtf8 command.now.journals.items }
-    requires there { whether (format_named (formats_by format_name text_for formats.old.items) command.now.format) ≡ Ok tt }
+    requires place { place_named format_name command.now.format formats.old.items ≡ Some place }
     requires fresh { AreFresh is_closed rows_so_far formats.old.items }
     ensures read { ReadsFiles F.told F.faults F.asked shelf.old shelf.new command.now.journals.items
         (result_view writing_view result) (λ reader files. listed reader files (formats_by format_name text_for formats.old.items) command.now.format command.now.locks.items command.now.journals.items (onlys_view command.now.only.items) bytes.now) }
     ensures formats { LeavesFormats (outcome_of (result_view writing_view result)).status
         (without_named format_name command.now.format formats.old.items) formats.old.items formats.new.items }
 {
-    let name = name_of(&command.format);
     let package = read_package(alloc, bytes)?;
     let parts = part_names(alloc, package.package())?;
     let admitted = open_package(
@@ -58,7 +58,7 @@ pub fn list_package<'a, 'b, F: Shelf>(
         bytes,
         shelf,
     )?;
-    list_revisions(alloc, name, &command.only, &parts, admitted, formats)
+    list_revisions(alloc, command, &parts, admitted, formats, place)
 }
 
 // The names of the parts of a package.
@@ -85,29 +85,30 @@ fn part_name<'n>(pkg: &'n Package, part: u32) -> &'n [u8]
 // The listing of those of a session's revisions that are shown, where these are the names of the parts of its package.
 fn list_revisions<'a, 'b>(
     alloc: Global,
-    name: &'a str,
-    only: &[Only],
+    command: &'a ListCommand,
     parts: &[Text],
     admitted: Admitted<'b>,
     formats: &mut Vec<Box<dyn RowFormat>>,
+    place: usize,
 ) -> Result<Writing<'b>, Failure<'a>>
+    requires name { IsUtf8 command.now.format }
     requires names { parts.now ≡ part_names admitted.session.nodes }
     requires utf8 { All IsUtf8 parts.now }
     requires parts { All (λ revision. revision.part < length parts.now) admitted.session.revisions }
-    requires there { whether (format_named (formats_by format_name text_for formats.old.items) name.now) ≡ Ok tt }
+    requires place { place_named format_name command.now.format formats.old.items ≡ Some place }
     requires fresh { AreFresh is_closed rows_so_far formats.old.items }
     ensures read { Reads (result_view writing_view result) (λ reader. listing_named
-        (formats_by format_name text_for formats.old.items) name.now (onlys_view only.now) (admission_view admitted.entry)) }
+        (formats_by format_name text_for formats.old.items) command.now.format (onlys_view command.now.only.items) (admission_view admitted.entry)) }
     ensures formats { LeavesFormats (outcome_of (result_view writing_view result)).status
-        (without_named format_name name.now formats.old.items) formats.old.items formats.new.items }
+        (without_named format_name command.now.format formats.old.items) formats.old.items formats.new.items }
 {
     let Admitted {
         session,
         remarks,
         ..
     } = admitted;
-    let told = told_of(alloc, name, only, session)?;
-    let made = make_listing(alloc, name, parts, told, formats)?;
+    let told = told_of(alloc, name_of(&command.format), &command.only, session)?;
+    let made = make_listing(alloc, parts, told, formats, place)?;
     Ok(Writing {
         output: Output::Listing(made),
         remarks,
@@ -148,24 +149,24 @@ fn told_of(
     })
 }
 
-// The listing of what is shown of this, in the format with this name, if there is one.
+// The listing of what is shown of this, in the format at this place, which it takes.
 fn make_listing(
     alloc: Global,
-    name: &str,
     parts: &[Text],
     told: ListedSession,
     formats: &mut Vec<Box<dyn RowFormat>>,
+    place: usize,
 ) -> Result<Vec<u8>, AllocError>
     requires utf8 { All IsUtf8 parts.now }
     requires parts { All (λ revision. revision.part < length parts.now) told.index }
     requires verdicts { length told.verdicts.items ≡ length told.index }
     requires details { All IsDetail told.details.items }
+    requires within { place < length formats.old.items }
     requires fresh { AreFresh is_closed rows_so_far formats.old.items }
-    ensures made { IfOk result (λ made. (found : Bool) × IsListed (first_named format_name name.now formats.old.items)
+    ensures made { IfOk result (λ made. IsListed (slice_get formats.old.items place)
         (λ format. text_for format (shown_rows told.shown.items (told_rows parts.now told.index told.verdicts.items told.details.items)) true)
-        found made.items) }
-    ensures taken { OnOk result (formats.new.items ≡ without_named format_name name.now formats.old.items) }
-    ensures left { OnErr result ((formats.new.items ≡ formats.old.items) ⊎ (formats.new.items ≡ without_named format_name name.now formats.old.items)) }
+        true made.items) }
+    ensures taken { formats.new.items ≡ remove formats.old.items place }
 {
     let ListedSession {
         index,
@@ -173,6 +174,7 @@ fn make_listing(
         shown,
         details,
     } = told;
+    let format = formats.remove(place);
     let mut made = Vec::new(alloc);
     let listed = Listed {
         parts,
@@ -180,7 +182,7 @@ fn make_listing(
         verdicts: &verdicts,
         shown: &shown,
     };
-    let _ = list_told(alloc, formats, name, &listed, details, &mut made)?;
+    list_in(alloc, format, &listed, details, &mut made)?;
     Ok(made)
 }
 

@@ -1,5 +1,6 @@
 -- The formats of listings and of reports, as the outcome of a call sees them, and what a call leaves of their lists.
-use Rattle.std.specs.Prelude.{◌≡◌, ◌⊎◌, ℕ, Bool, true, false, List, [], All, map, Option, None, Some, Result, Ok, Err}
+use Rattle.std.specs.Prelude.{◌≡◌, ◌⊎◌, ℕ, Bool, true, false, List, [], All, map, position, Option, None, Some, Result, Ok, Err}
+use Rattle.std.specs.Str.{bytes_eq}
 use Rattle.redl_lines.specs.Failures.{Failure, caused, no_format}
 use Rattle.redl_lines.specs.declared.status.Status.{Status}
 use Rattle.redl_lines.specs.declared.status.Status.TheVariants as status
@@ -28,6 +29,15 @@ found_format name (Some format) = Ok format
 -- the first format that has the name
 abbrev pub format_named : {I : Type 0} → List (Format I) → List ℕ → Result (Format I) Failure
 format_named formats name = found_format name (first_named (λ format. format.name) name formats)
+
+-- its place, if there is one
+abbrev pub place_named : {F : Type 0} → (F → List ℕ) → List ℕ → List F → Option ℕ
+place_named name_of name formats = position (λ format. bytes_eq (name_of format) name) formats
+
+-- the place of the format of this name, which is there, if one is asked for
+abbrev pub IsPlaceAsked : {F : Type 0} → (F → List ℕ) → Option (List ℕ) → List F → Option ℕ → Type 0
+IsPlaceAsked name_of None formats place = place ≡ None
+IsPlaceAsked name_of (Some name) formats place = (found : ℕ) × (place ≡ Some found) × (place_named name_of name formats ≡ Some found)
 
 -- nothing more than whether something was made
 abbrev pub whether : {X : Type 0} → Result X Failure → Result (Unit {0}) Failure

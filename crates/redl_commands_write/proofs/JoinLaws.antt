@@ -1,5 +1,5 @@
 -- The union of journals.
-use Rattle.std.proofs.Common.{◌≡◌, ◌<◌, ◌≤◌, ◌-◌, ℕ, List, [], ◌∷◌, length, take, drop, get_or, Option, Result, refl, ap, ◌∙◌, subst, arith}
+use Rattle.std.proofs.Common.{◌≡◌, ◌≢◌, ◌<◌, ◌≤◌, ◌-◌, ℕ, List, [], ◌∷◌, length, take, drop, get_or, Option, Result, refl, ap, ◌∙◌, subst, arith}
 use Rattle.std.proofs.lemmas.List.{take_all}
 use Rattle.redl_commands.specs.Join.{joined}
 use Rattle.redl_commands.specs.Writing.{Writing}
@@ -19,3 +19,8 @@ pub joins_same : {S : Type 0} {told : S → Option Files} {faults : S → ℕ} {
     → ReadsFiles told faults asked old new others made (λ reader files. joined reader files journal_bytes others)
 joins_same {told = told} {faults = faults} {asked = asked} {old = old} {new = new} {made = made} names others same step =
     subst (λ ns. ReadsFiles told faults asked old new ns made (λ reader files. joined reader files journal_bytes ns)) same step
+
+-- a list that is shorter than one is empty
+pub no_names : (names : List (List ℕ)) → length names < 1 → names ≢ [] → ⊥
+no_names [] none some = some refl
+no_names (name ∷ names) none some = absurd (omega (arith, none))

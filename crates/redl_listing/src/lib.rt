@@ -24,7 +24,7 @@ pub use format::{
 };
 pub use full_rows::FullRows;
 pub use json_rows::JsonRows;
-pub use listing::{Listed, add_format, list, list_told};
+pub use listing::{Listed, add_format, list, list_in};
 pub use named::{Named, has_name, take_named};
 pub use row::Row;
 pub use tab_rows::TabRows;

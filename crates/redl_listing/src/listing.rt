@@ -79,50 +79,42 @@ pub fn list(
     ensures taken { formats.new.items ≡ without_named (λ format. format_name format) name.now formats.old.items }
     ensures unchanged { IfOk result (λ found. found ≡ false → formats.new.items ≡ formats.old.items) }
 {
+    let Some(format) = take_named(formats, name) else {
+        return Ok(false);
+    };
     let listed = Listed {
         parts: pkg_names,
         index,
         verdicts,
         shown: &[],
     };
-    list_told(alloc, formats, name, &listed, Vec::new(alloc), made)
+    list_in(alloc, format, &listed, Vec::new(alloc), made)?;
+    Ok(true)
 }
 
-/// The same of the revisions that are shown alone, with their details in the order of numbers. A row whose detail is missing has
-/// none.
-pub fn list_told(
+/// Makes the listing of the revisions that are shown, in this format, which goes. `details` has their details in the order of
+/// numbers. A row whose detail is missing has none. `Err` means out of memory, and `made` is empty.
+pub fn list_in(
     alloc: Global,
-    formats: &mut Vec<Box<dyn RowFormat>>,
-    name: &str,
+    format: Box<dyn RowFormat>,
     listed: &Listed<'_>,
     details: Vec<Detail>,
     made: &mut Vec<u8>,
-) -> Result<bool, AllocError>
+) -> Result<(), AllocError>
     requires empty { made.old.items ≡ [] }
     requires names { All IsUtf8 listed.now.parts.now }
     requires parts { All (λ revision. revision.part < length listed.now.parts.now) listed.now.index.now }
     requires verdicts { length listed.now.verdicts.now ≡ length listed.now.index.now }
     requires details { All IsDetail details.items }
-    requires fresh { All (λ format. (is_closed format ≡ false) × (rows_so_far format ≡ [])) formats.old.items }
-
-    // The first format with the name made the text of the rows that are shown, or there is none.
-    ensures listed { IfOk result (λ found. IsListed
-        (first_named (λ format. format_name format) name.now formats.old.items)
-        (λ format. text_for format (listed_rows listed.now details.items) true)
-        found made.new.items) }
+    requires fresh { (is_closed format ≡ false) × (rows_so_far format ≡ []) }
+    ensures listed { OnOk result (made.new.items ≡ text_for format (listed_rows listed.now details.items) true) }
     ensures unmade { OnErr result (made.new.items ≡ []) }
-
-    // The list has lost that one format and no other.
-    ensures taken { formats.new.items ≡ without_named (λ format. format_name format) name.now formats.old.items }
-    ensures unchanged { IfOk result (λ found. found ≡ false → formats.new.items ≡ formats.old.items) }
 {
-    let Some(mut format) = take_named(formats, name) else {
-        return Ok(false);
-    };
+    let mut format = format;
     let mut details = details;
     add_rows(alloc, &mut format, listed, &mut details)?;
     finish(&mut format, made)?;
-    Ok(true)
+    Ok(())
 }
 
 // Gives the format a row for each revision that is shown, with its detail, which it takes.

@@ -1,5 +1,5 @@
 -- The step before the package: whether the formats are there that a command asks for.
-use Rattle.std.proofs.Common.{◌≡◌, ◌↔◌, ℕ, List, [], Option, None, Some, Result, Ok, Err, refl, sym, ap, ◌∙◌}
+use Rattle.std.proofs.Common.{◌≡◌, ◌↔◌, ℕ, List, [], Option, None, Some, Result, Ok, Err, refl, sym, ap, ◌∙◌, subst}
 use Rattle.redl_outcome.specs.Answers.{LacksFormat}
 use Rattle.redl_outcome.specs.Brought.{Brought}
 use Rattle.redl_outcome.specs.Files.{where_ok}
@@ -44,7 +44,7 @@ pub lacks_format : (brought : Brought) (plan : Plan) (cause : Cause) → has_ask
     → (end_status (failed (caused cause)) ≡ status.Usage) ↔ LacksFormat brought plan
 lacks_format brought plan cause is =
     let missing : IsMissing (caused cause) = is_missing brought plan (caused cause) is in
-    (λ _. (missing.0, is ∙ ap Err missing.1), λ _. ap failure_status missing.1)
+    (λ _. (missing.0, subst (λ (failure : Failure). has_asked brought plan ≡ Err failure) missing.1 is), λ _. ap failure_status missing.1)
 
 -- a command that was carried out lacked no format, and its end is of another status
 pub has_its_format : (brought : Brought) (plan : Plan) (end : DeclaredEnd) → has_asked brought plan ≡ Ok tt → (end_status (end_view end) ≡ status.Usage) ↔ LacksFormat brought plan

@@ -92,9 +92,9 @@ misused_ends brought words (Err error) end is ends exactly misused = failure_end
 pub only_misused : (brought : Brought) (words : List (List ℕ)) (read : Result Declared WordsError) (end : End) → IfOk read (λ command. IsCommand words (command_of command))
     → (IsErrOf read error.Usage → HasNoCommand words) → IfErr read (λ error. end ≡ failed (words_failure error))
     → IfOk read (λ command. (end_status end ≡ status.Usage) ↔ LacksFormat brought (plan (command_of command))) → end_status end ≡ status.Usage → AreMisused words brought
-only_misused brought words (Ok found) end is none ends exactly usage = inr (command_of found, is, exactly.0 usage)
-only_misused brought words (Err error.Usage) end is none ends exactly usage = inl (none refl)
-only_misused brought words (Err error.NoMemory) end is none ends exactly usage = absurd (cc (sym (ap end_status ends) ∙ usage))
+only_misused brought words (Ok found) end is none ends exactly ended = inr (command_of found, is, exactly.0 ended)
+only_misused brought words (Err error.Usage) end is none ends exactly ended = inl (none refl)
+only_misused brought words (Err error.NoMemory) end is none ends exactly ended = absurd (cc (sym (ap end_status ends) ∙ ended))
 
 -- ---- what is left of the formats
 

@@ -26,7 +26,7 @@ pub use format::{JsonReport, ReportError, ReportFormat, TextReport};
 pub use json_lines::JsonLines;
 pub use line::{ReportLine, Role};
 pub use line_list::{lines, lines_by_kind};
-pub use making::{add_report_format, report};
+pub use making::{add_report_format, report, report_in};
 pub use named::has_report_name;
 pub use table_report::TableReport;
 pub use text_lines::TextLines;

@@ -53,12 +53,29 @@ pub fn report(
     ensures taken { formats.new.items ≡ without_named (λ format. report_name format) name.now formats.old.items }
     ensures unchanged { IfOk result (λ found. found ≡ false → formats.new.items ≡ formats.old.items) }
 {
-    let Some(mut format) = take_named(formats, name) else {
+    let Some(format) = take_named(formats, name) else {
         return Ok(false);
     };
+    report_in(format, lines, made)?;
+    Ok(true)
+}
+
+/// Makes the report with these lines in this format, which goes. `Err` means out of memory, and `made` is empty.
+pub fn report_in(
+    format: Box<dyn ReportFormat>,
+    lines: &[ReportLine],
+    made: &mut Vec<u8>,
+) -> Result<(), AllocError>
+    requires empty { made.old.items ≡ [] }
+    requires names { All IsLine lines.now }
+    requires fresh { (is_ended format ≡ false) × (lines_so_far format ≡ []) }
+    ensures made { OnOk result (made.new.items ≡ report_text format lines.now true) }
+    ensures unmade { OnErr result (made.new.items ≡ []) }
+{
+    let mut format = format;
     add_lines(&mut format, lines)?;
     finish(&mut format, made)?;
-    Ok(true)
+    Ok(())
 }
 
 // Gives the format the lines. `Err` means out of memory.

@@ -1,10 +1,17 @@
 -- Each command makes what the outcome says: an answer for each arm, since a command has its own definition.
+use Rattle.std.proofs.Common.{◌∙◌, refl, sym}
 use Rattle.redl_commands.specs.Views.{writing_view}
 use Rattle.redl_inputs.proofs.ReadLaws.{reads_nothing}
 use Rattle.redl_inputs.specs.Views.{result_view}
 use Rattle.redl_lines.specs.Ends.{end_status, end_view}
 use Rattle.redl_app.proofs.BroughtLaws.{leaves_same}
 use Rattle.redl_app.proofs.commands.carry_out.Goals as goal
+
+pub unwrap-place-requires : goal.unwrap-place-requires
+unwrap-place-requires g c = let asked = rw c.in-List.is at c.requires.format in rw asked.1 refl
+
+pub list-requires-clause-place : goal.list-requires-clause-place
+list-requires-clause-place g c = let asked = rw c.in-List.is at c.requires.format in asked.2 ∙ (sym asked.1 ∙ c.unwrap-place.ensures)
 
 pub list-requires-clause-name : goal.list-requires-clause-name
 list-requires-clause-name g c = (rw c.in-List.is at c.requires.utf8).1
@@ -96,8 +103,11 @@ returns-in-Sample-clause-ends g c = record {
   finishes = c.put-in-Sample.ensures;
 }
 
-pub report-requires-clause-name : goal.report-requires-clause-name
-report-requires-clause-name g c = (rw c.in-Report.is at c.requires.utf8).1
+pub unwrap-place-requires-in-Report : goal.unwrap-place-requires-in-Report
+unwrap-place-requires-in-Report g c = let asked = rw c.in-Report.is at c.requires.report in rw asked.1 refl
+
+pub report-requires-clause-place : goal.report-requires-clause-place
+report-requires-clause-place g c = let asked = rw c.in-Report.is at c.requires.report in asked.2 ∙ (sym asked.1 ∙ c.unwrap-place-in-Report.ensures)
 
 pub report-requires-clause-utf8 : goal.report-requires-clause-utf8
 report-requires-clause-utf8 g c = (rw c.in-Report.is at c.requires.utf8).3

@@ -1,17 +1,13 @@
-use Rattle.std.proofs.Common.{arith, sym}
-use Rattle.redl_commands_list.proofs.FormatLaws.{found_at, not_found_at, not_found}
+use Rattle.std.proofs.Common.{sym, ◌∙◌}
+use Rattle.redl_commands_list.proofs.FormatLaws.{placed_there, unplaced}
 use Rattle.redl_app.proofs.formats.find_report.Goals as goal
 
-pub loop-format-preserved : goal.loop-format-preserved
-loop-format-preserved g c =
-    not_found_at (λ b. (goal.ReportFormat-dyn g (b.vtable, b.value)).report_name b.value) c.args.name.now c.args.reports.now c.loop-format.format-index c.format-item.result
-    c.loop-format-test.true c.format-item.is (sym c.if-has_report_name.ensures) c.loop-format.invariant
+pub returns-in-Some-place_of_report-clause-there : goal.returns-in-Some-place_of_report-clause-there
+returns-in-Some-place_of_report-clause-there g c =
+    rw c.in-Some.is (sym (placed_there (λ b. (goal.ReportFormat-dyn g (b.vtable, b.value)).report_name b.value) (λ b. (goal.ReportFormat-dyn g (b.vtable, b.value)).report_text b.value)
+    c.in-Some.name.now c.args.reports.now c.in-Some-place_of_report.place (sym c.place_of_report.ensures ∙ c.in-Some-place_of_report.is)))
 
-pub returns-then-has_report_name : goal.returns-then-has_report_name
-returns-then-has_report_name g c =
-    sym (found_at (λ b. (goal.ReportFormat-dyn g (b.vtable, b.value)).report_name b.value) (λ b. (goal.ReportFormat-dyn g (b.vtable, b.value)).report_text b.value) c.args.name.now c.args.reports.now c.loop-format.format-index c.format-item.result
-    c.loop-format-test.true c.format-item.is (sym c.if-has_report_name.ensures) c.loop-format.invariant)
-
-pub returns : goal.returns
-returns g c =
-    sym (not_found (λ b. (goal.ReportFormat-dyn g (b.vtable, b.value)).report_name b.value) (λ b. (goal.ReportFormat-dyn g (b.vtable, b.value)).report_text b.value) c.args.name.now c.args.reports.now c.loop-format.format-index (omega arith) c.loop-format.invariant)
+pub returns-in-None-clause-there : goal.returns-in-None-clause-there
+returns-in-None-clause-there g c =
+    rw c.in-Some.is (sym (unplaced (λ b. (goal.ReportFormat-dyn g (b.vtable, b.value)).report_name b.value) (λ b. (goal.ReportFormat-dyn g (b.vtable, b.value)).report_text b.value)
+    c.in-Some.name.now c.args.reports.now (sym c.place_of_report.ensures ∙ c.in-None.is)))

@@ -20,12 +20,12 @@ pub returns-in-Err-clause-usage : goal.returns-in-Err-clause-usage
 returns-in-Err-clause-usage g c =
     lacks_format (g.B.Brings.brought c.args.brings.now) (plan (command_of c.args.command.now)) (misuse_cause c.in-Err.misuse) (sym c.in-Err.ensures.asked)
 
-pub returns-in_default-package-clause-ends : goal.returns-in_default-package-clause-ends
-returns-in_default-package-clause-ends g c =
+pub returns-in_default-clause-ends : goal.returns-in_default-clause-ends
+returns-in_default-clause-ends g c =
     let brought = g.B.Brings.brought c.args.brings.now in
     let asked = plan (command_of c.args.command.now) in
-    let there : has_asked brought asked ≡ Ok tt = sym c.in_default.ensures.asked in
-    let none : package_of asked.makes ≡ None = sym c.package.ensures ∙ ap option_copied c.in_default-package.is in
+    let there : has_asked brought asked ≡ Ok tt = sym c.in-Ok.ensures.asked in
+    let none : package_of asked.makes ≡ None = sym c.package.ensures ∙ ap option_copied c.in_default.is in
     ends_after _ (has_asked brought asked) (file_names asked) (λ reader files. made_by reader files brought asked.makes) tt there
     (record {
       made = c.carry_out.ensures.ends.made;
@@ -33,33 +33,33 @@ returns-in_default-package-clause-ends g c =
       finishes = c.carry_out.ensures.ends.finishes;
     })
 
-pub returns-in_default-package-clause-usage : goal.returns-in_default-package-clause-usage
-returns-in_default-package-clause-usage g c =
-    has_its_format (g.B.Brings.brought c.args.brings.now) (plan (command_of c.args.command.now)) c.carry_out.result (sym c.in_default.ensures.asked)
+pub returns-in_default-clause-usage : goal.returns-in_default-clause-usage
+returns-in_default-clause-usage g c =
+    has_its_format (g.B.Brings.brought c.args.brings.now) (plan (command_of c.args.command.now)) c.carry_out.result (sym c.in-Ok.ensures.asked)
 
-pub returns-in-Ok-clause-ends : goal.returns-in-Ok-clause-ends
-returns-in-Ok-clause-ends g c =
+pub returns-in-Ok-fetch_package-clause-ends : goal.returns-in-Ok-fetch_package-clause-ends
+returns-in-Ok-fetch_package-clause-ends g c =
     let brought = g.B.Brings.brought c.args.brings.now in
     let asked = plan (command_of c.args.command.now) in
-    let there : has_asked brought asked ≡ Ok tt = sym c.in_default.ensures.asked in
+    let there : has_asked brought asked ≡ Ok tt = sym c.in-Ok.ensures.asked in
     let some : package_of asked.makes ≡ Some c.in-Some.name.now = sym c.package.ensures ∙ ap option_copied c.in-Some.is in
     ends_after _ (has_asked brought asked) (file_names asked) (λ reader files. made_by reader files brought asked.makes) tt there
     (record {
-      made = c.carry_out-in-Ok.ensures.ends.made;
-      reads = reads_package brought asked.makes asked.journals c.in-Some.name.now c.in-Ok.text.items some c.in-Ok.ensures
-          (rw c.deref.ensures.value at c.carry_out-in-Ok.ensures.ends.reads);
-      finishes = c.carry_out-in-Ok.ensures.ends.finishes;
+      made = c.carry_out-in-Ok-fetch_package.ensures.ends.made;
+      reads = reads_package brought asked.makes asked.journals c.in-Some.name.now c.in-Ok-fetch_package.text.items some c.in-Ok-fetch_package.ensures
+          (rw c.deref.ensures.value at c.carry_out-in-Ok-fetch_package.ensures.ends.reads);
+      finishes = c.carry_out-in-Ok-fetch_package.ensures.ends.finishes;
     })
 
-pub returns-in-Ok-clause-usage : goal.returns-in-Ok-clause-usage
-returns-in-Ok-clause-usage g c =
-    has_its_format (g.B.Brings.brought c.args.brings.now) (plan (command_of c.args.command.now)) c.carry_out-in-Ok.result (sym c.in_default.ensures.asked)
+pub returns-in-Ok-fetch_package-clause-usage : goal.returns-in-Ok-fetch_package-clause-usage
+returns-in-Ok-fetch_package-clause-usage g c =
+    has_its_format (g.B.Brings.brought c.args.brings.now) (plan (command_of c.args.command.now)) c.carry_out-in-Ok-fetch_package.result (sym c.in-Ok.ensures.asked)
 
 pub returns-in-Err-fetch_package-clause-ends : goal.returns-in-Err-fetch_package-clause-ends
 returns-in-Err-fetch_package-clause-ends g c =
     let brought = g.B.Brings.brought c.args.brings.now in
     let asked = plan (command_of c.args.command.now) in
-    let there : has_asked brought asked ≡ Ok tt = sym c.in_default.ensures.asked in
+    let there : has_asked brought asked ≡ Ok tt = sym c.in-Ok.ensures.asked in
     let some : package_of asked.makes ≡ Some c.in-Some.name.now = sym c.package.ensures ∙ ap option_copied c.in-Some.is in
     ends_after _ (has_asked brought asked) (file_names asked) (λ reader files. made_by reader files brought asked.makes) tt there
     (record {
@@ -70,4 +70,4 @@ returns-in-Err-fetch_package-clause-ends g c =
 
 pub returns-in-Err-fetch_package-clause-usage : goal.returns-in-Err-fetch_package-clause-usage
 returns-in-Err-fetch_package-clause-usage g c =
-    has_its_format (g.B.Brings.brought c.args.brings.now) (plan (command_of c.args.command.now)) (Failed c.in-Err-fetch_package.failure) (sym c.in_default.ensures.asked)
+    has_its_format (g.B.Brings.brought c.args.brings.now) (plan (command_of c.args.command.now)) (Failed c.in-Err-fetch_package.failure) (sym c.in-Ok.ensures.asked)

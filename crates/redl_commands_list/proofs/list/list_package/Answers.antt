@@ -35,18 +35,15 @@ returns-clause-read g c =
     reads_then_takes (λ admission reader. listing_named formats c.args.command.now.format (onlys_view c.args.command.now.only.items) admission)
     (takes_then_reads (λ nodes reader files. opened_over reader files c.args.command.now.locks.items c.args.command.now.journals.items c.args.bytes.now nodes)
     c.in_ok-package.ensures.read (rw (c.deref.ensures.value, c.deref-2.ensures.value) at c.in_ok-admitted.ensures.read))
-    (rw (c.name_of-name.ensures, c.deref-3.ensures.value) at c.list_revisions.ensures.read)
+    c.list_revisions.ensures.read
 
 pub list_revisions-requires-clause-names : goal.list_revisions-requires-clause-names
 list_revisions-requires-clause-names g c =
-    session_names c.in_ok-package.«package» c.in_ok-admitted.admitted.session.nodes c.deref-4.result.now (c.deref-4.ensures.value ∙ c.in_ok-parts.ensures.names ∙ ap part_names c.package-2.ensures) c.in_ok-admitted.ensures.nodes
+    session_names c.in_ok-package.«package» c.in_ok-admitted.admitted.session.nodes c.deref-3.result.now (c.deref-3.ensures.value ∙ c.in_ok-parts.ensures.names ∙ ap part_names c.package-2.ensures) c.in_ok-admitted.ensures.nodes
 
 pub list_revisions-requires-clause-parts : goal.list_revisions-requires-clause-parts
 list_revisions-requires-clause-parts g c =
-    revisions_named c.in_ok-package.«package» c.deref-4.result.now c.in_ok-admitted.admitted.session.revisions (c.deref-4.ensures.value ∙ c.in_ok-parts.ensures.names ∙ ap part_names c.package-2.ensures) c.in_ok-admitted.ensures.revisions
+    revisions_named c.in_ok-package.«package» c.deref-3.result.now c.in_ok-admitted.admitted.session.revisions (c.deref-3.ensures.value ∙ c.in_ok-parts.ensures.names ∙ ap part_names c.package-2.ensures) c.in_ok-admitted.ensures.revisions
 
 pub list_revisions-requires-clause-utf8 : goal.list_revisions-requires-clause-utf8
-list_revisions-requires-clause-utf8 g c = subst (All IsUtf8) (sym c.deref-4.ensures.value) c.in_ok-parts.ensures.utf8
-
-pub returns-clause-formats : goal.returns-clause-formats
-returns-clause-formats g c = rw c.name_of-name.ensures at c.list_revisions.ensures.formats
+list_revisions-requires-clause-utf8 g c = subst (All IsUtf8) (sym c.deref-3.ensures.value) c.in_ok-parts.ensures.utf8

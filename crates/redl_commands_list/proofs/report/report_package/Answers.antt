@@ -14,7 +14,4 @@ pub returns-clause-read : goal.returns-clause-read
 returns-clause-read g c =
     let reports = formats_by (λ b. (goal.ReportFormat-dyn g (b.vtable, b.value)).report_name b.value) (λ b. (goal.ReportFormat-dyn g (b.vtable, b.value)).report_text b.value) c.args.reports.now.items in
     reads_then_takes (λ admission reader. report_named reports c.args.command.now.format c.args.command.now.by_kind admission)
-    (rw (c.deref.ensures.value, c.deref-2.ensures.value) at c.in_ok-admitted.ensures) (rw c.name_of-name.ensures at c.report_session.ensures.read)
-
-pub returns-clause-reports : goal.returns-clause-reports
-returns-clause-reports g c = rw c.name_of-name.ensures at c.report_session.ensures.reports
+    (rw (c.deref.ensures.value, c.deref-2.ensures.value) at c.in_ok-admitted.ensures) c.report_session.ensures.read
