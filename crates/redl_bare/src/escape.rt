@@ -20,13 +20,6 @@ pub(crate) fn put_escaped<K: Sink>(text: &[u8], out: &mut K) -> Result<(), Faile
     if are_clean(text) {
         return put_piece(text, out);
     }
-    put_mixed(text, out)
-}
-
-// The same of a text that may have such bytes.
-fn put_mixed<K: Sink>(text: &[u8], out: &mut K) -> Result<(), Failed>
-    ensures { Puts K.told K.faults K.settled K.lenders out.old out.new (escaped text.now) result }
-{
     let mut left = text;
     while let Some((first, rest)) = left.split_first() {
         put_byte(*first, out)?;
@@ -70,13 +63,6 @@ pub(crate) fn put_shown<K: Sink>(bytes: &[u8], out: &mut K) -> Result<(), Failed
     if are_clean(bytes) {
         return put_piece(bytes, out);
     }
-    put_read(bytes, out)
-}
-
-// The same of bytes that may have references, or other bytes that are not written as they are.
-fn put_read<K: Sink>(bytes: &[u8], out: &mut K) -> Result<(), Failed>
-    ensures { Puts K.told K.faults K.settled K.lenders out.old out.new (escaped (shown bytes.now)) result }
-{
     let mut here = start();
     let mut left = bytes;
     while let Some(step) = next_shown(here, left) {

@@ -27,13 +27,6 @@ pub(crate) fn put_shown_texts<'a, K: Sink>(
     if are_clean(bytes) {
         return put_characters(bytes, writer);
     }
-    put_read_texts(bytes, writer)
-}
-
-// The same of bytes that may have references, or other bytes that do not show themselves.
-fn put_read_texts<'a, K: Sink>(bytes: &[u8], writer: &mut Writer<'a, K>) -> Result<(), Failed>
-    ensures { PutsUnits K.told K.faults K.settled K.lenders writer.old writer.new (in_marks (marks_view writer.old.marks) (map byte (shown bytes.now))) result }
-{
     let mut here = start();
     let mut left = bytes;
     while let Some(step) = next_shown(here, left) {

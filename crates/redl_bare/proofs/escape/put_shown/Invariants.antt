@@ -2,7 +2,7 @@ use Rattle.std.proofs.Common.{length}
 use Rattle.redl_io.proofs.Puts.{PutsSoFar}
 use Rattle.redl_shown.specs.Shown.{shown, shown_from}
 use Rattle.redl_bare.specs.BareText.{escaped}
-use Rattle.redl_bare.proofs.escape.put_read.Given as goal
+use Rattle.redl_bare.proofs.escape.put_shown.Given as goal
 
 abbrev pub invariant-loop-step : goal.invariant-loop-step
 invariant-loop-step g l =

@@ -3,7 +3,7 @@ use Rattle.redl_shown.specs.Shown.{shown, shown_from}
 use Rattle.redl_bare.specs.Units.{byte, in_marks}
 use Rattle.redl_bare.specs.Inside.Views.{marks_view}
 use Rattle.redl_bare.proofs.LineLaws.{UnitsSoFar}
-use Rattle.redl_bare.proofs.texts.put_read_texts.Given as goal
+use Rattle.redl_bare.proofs.texts.put_shown_texts.Given as goal
 
 abbrev pub invariant-loop-step : goal.invariant-loop-step
 invariant-loop-step g l =

@@ -1,7 +1,7 @@
 use Rattle.std.proofs.Common.{length}
 use Rattle.redl_io.proofs.Puts.{PutsSoFar}
 use Rattle.redl_bare.specs.BareText.{escaped}
-use Rattle.redl_bare.proofs.escape.put_mixed.Given as goal
+use Rattle.redl_bare.proofs.escape.put_escaped.Given as goal
 
 abbrev pub invariant-loop-first : goal.invariant-loop-first
 invariant-loop-first g l =
