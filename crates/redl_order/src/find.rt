@@ -1,7 +1,6 @@
 //! The walk that finds the references among nodes.
 
-ghost use Rattle.std.specs.Prelude.{◌≡◌, ◌++◌, OnOk, codes};
-ghost use Rattle.redl_reading.specs.Lists.{lacks};
+ghost use Rattle.std.specs.Prelude.{◌≡◌, ◌++◌, OnOk};
 ghost use Rattle.redl_tree.specs.Model.IdleTexts.{idle_nodes};
 ghost use Rattle.redl_tree.specs.Model.View.{nodes_of, item_of, tag_of, kids_of};
 ghost use Rattle.redl_order.specs.References.{named_by, named_of, references};
@@ -11,7 +10,7 @@ use crate::reference::{Reference, is_on, named_kind};
 use crate::values::value_in;
 use redl_idle::{Shows, show};
 use redl_io::Text;
-use redl_reading::{far_until, skip};
+use redl_pairs::lacks_word;
 use redl_tree::{Elem, Node, Plain, Space};
 use std::alloc::{AllocError, Global};
 
@@ -76,29 +75,15 @@ impl Shows<Seen> for Anywhere {
     }
 }
 
-// Adds the references among idle elements that are kept as text, of which most texts have none. `Err` means out of memory.
+// Adds the references among idle elements that are kept as text. Most texts lack the word in which the name of each reference ends,
+// and are not read. `Err` means out of memory.
 fn find_idle(plain: &Plain<'_>, seen: &mut Seen) -> Result<(), AllocError>
     ensures { OnOk result (seen.new.references.items ≡ seen.old.references.items ++ references (idle_nodes plain.now)) }
 {
-    if lacks_reference(plain.text()) {
+    if lacks_word(plain.text(), b"Reference") {
         return Ok(());
     }
     show(plain, &Anywhere, seen)
-}
-
-// Whether the word in which the name of each reference ends is nowhere in a text.
-#[tactic(auto, using(redl_reading::proofs::Words::lacks_after, redl_reading::proofs::Runs::after_fits))]
-fn lacks_reference(text: &[u8]) -> bool
-    ensures { result ≡ lacks (codes "Reference") text.now }
-{
-    let (_, mut rest) = far_until(text, b'R');
-    while let Some((_, next)) = rest.split_first() {
-        match skip(rest, b"Reference") {
-            Some(_) => return false,
-            None => rest = far_until(next, b'R').1,
-        }
-    }
-    true
 }
 
 /// Adds the references among nodes, in their order. `Err` means out of memory.

@@ -11,11 +11,11 @@ use Rattle.redl_order.proofs.FindLaws.{shown_idle}
 use Rattle.redl_order.proofs.LackLaws.{none_named}
 use Rattle.redl_order.proofs.find.find_idle.Goals as goal
 
-pub returns-then-lacks_reference : goal.returns-then-lacks_reference
-returns-then-lacks_reference c =
+pub returns-then-lacks_word : goal.returns-then-lacks_word
+returns-then-lacks_word c =
     let t = c.args.plain.now in
     let old = c.args.seen.now.references.items in
-    let none = none_named (idle_nodes t) (idle_laid t) (ap (lacks (codes "Reference")) c.text.ensures.nodes ∙ sym c.lacks_reference.ensures ∙ c.if-lacks_reference.true) in
+    let none = none_named (idle_nodes t) (idle_laid t) (ap (lacks (codes "Reference")) c.text.ensures.nodes ∙ sym c.lacks_word.ensures ∙ c.if-lacks_word.true) in
     sym (ap (λ (rs : List Reference). old ++ rs) none ∙ append-nil old)
 
 pub returns : goal.returns
