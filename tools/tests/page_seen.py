@@ -139,6 +139,8 @@ class Seen:
         wait(lambda: self.run("return document.querySelector(arguments[0]) !== null", selector))
         self.driven.click(selector)
         wait(lambda: not self.run("return document.querySelector(arguments[0]) !== null", selector))
+        # (what it brings comes after the event that closes the question)
+        self.driven.run_async("setTimeout(arguments[arguments.length - 1], 20)")
 
     def stay(self):
         """From now on a change that was decided stays the chosen one."""
