@@ -89,11 +89,13 @@ function toldOf(lines) {
   const unknown = refused.length - locked;
   const gone = all.map((it) => it.match(/^redline: note: locked revision (\d+) went/)?.[1]).filter(Boolean);
   const undecided = Number(lines.match(/^redline: note: (\d+) marks? (?:is|are) left that Redline does not decide/m)?.[1] ?? 0);
+  const isClosed = /^redline: note: the result .* will not be read again$/m.test(lines);
   return [
     locked ? counted(locked, "decision") + (locked === 1 ? " is" : " are") + " on locked changes and did not count." : "",
     unknown ? counted(unknown, "decision") + (unknown === 1 ? " is" : " are") + " on a change that this document does not have, and did not count." : "",
     gone.length ? (gone.length === 1 ? "The locked change " : "The locked changes ") + gone.join(", ") + " went, since the text around went." : "",
     undecided ? counted(undecided, "mark is", "marks are") + " left in it that Redline doesn't decide: look at “Before you send it out” in step 5." : "",
+    isClosed ? "It is deeper or longer than a document may be, or has a text that XML doesn't allow, so Redline will not open it for another round." : "",
   ].filter(Boolean).join(" ");
 }
 
