@@ -145,6 +145,7 @@ no-member is_set none no_nodes = refl
 no-member is_set none (bytes b rest) = no-member is_set none rest
 no-member is_set none (element tag kids rest) = rw (none tag.rev, no-member is_set none kids, no-member is_set none rest) refl
 
+-- without a change of says nothing is counted
 pub none-counted : (says : List Say) (old new : ℕ) (parts : List Element) → AreCounted (is_changed says says) says old new parts
 none-counted says old new [] = tt
 none-counted says old new (part ∷ parts) = (

@@ -22,9 +22,11 @@ text-is_not bytes none = by (is_utf8 bytes) refl
     by true is = absurd (none (IsUtf8-from_is_utf8 bytes is))
     by false is = rw is refl
 
+-- the test of bytes that are UTF-8 says so
 pub utf8-is : (bytes : List ℕ) → IsUtf8 bytes → true ≡ is_utf8 bytes
 utf8-is bytes is = sym (is_utf8-from_IsUtf8 bytes is)
 
+-- and of others that they are not
 pub utf8-is_not : (bytes : List ℕ) → (IsUtf8 bytes → ⊥) → false ≡ is_utf8 bytes
 utf8-is_not bytes none = by (is_utf8 bytes) refl
   where

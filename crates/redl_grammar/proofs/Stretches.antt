@@ -133,6 +133,7 @@ item_then-append (comment text) x y = simp append_assoc
 item_then-append (instruction name text) x y = simp append_assoc
 item_then-append (cdata text) x y = simp append_assoc
 
+-- what is written after items may be split anywhere
 pub items_then-append : (more : List (Item × List ℕ)) (x y : List ℕ) → items_then more x ++ y ≡ items_then more (x ++ y)
 items_then-append [] x y = refl
 items_then-append (i ∷ more) x y =

@@ -23,6 +23,7 @@ pub record CutsAt (xs : List ℕ) (b : ℕ) (ys : List ℕ) : Type 0 where
   pub from : IsUtf8 (b ∷ ys)
   pub right : IsUtf8 ys
 
+-- UTF-8 may be cut before and after an ASCII character
 pub cut_ascii : (xs : List ℕ) (b : ℕ) (ys : List ℕ) → b < 128 → IsUtf8 (xs ++ (b ∷ ys)) → CutsAt xs b ys
 cut_ascii xs b ys low u =
     let whole : List ℕ = xs ++ (b ∷ ys) in
@@ -39,6 +40,7 @@ cut_ascii xs b ys low u =
       right = subst P (ap (drop (length xs + 1)) regrouped ∙ drop_at (xs ++ (b ∷ [])) ys (length xs + 1) (length-append xs (b ∷ []))) (IsUtf8-drop whole (length xs + 1) u after_it);
     }
 
+-- a name is UTF-8
 pub word_is_utf8 : (colons : Bool) (word : List ℕ) → IsWord colons word → IsUtf8 word
 word_is_utf8 colons word h = (h.first ∷ h.more, (h.scalars, sym h.whole))
 

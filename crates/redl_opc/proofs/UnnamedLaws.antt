@@ -114,6 +114,7 @@ pub elements-elem : (nodes : List Node) (i : ℕ) (x : Node) (e : Elem) → i < 
 elements-elem nodes i x e within is elem =
     ap elements_of (nodes_here nodes i x within is ∙ ap (λ y. in_front y (nodes_of (drop (i + 1) nodes))) (ap item_of elem ∙ item_of-Elem e))
 
+-- bytes are no element
 pub elements-bytes : (nodes : List Node) (i : ℕ) (x : Node) (b : Bor (List ℕ)) → i < length nodes → x ≡ get_or nodes i x → x ≡ node.Bytes b
     → elements_of (nodes_of (drop i nodes)) ≡ elements_of (nodes_of (drop (i + 1) nodes))
 elements-bytes nodes i x b within is text =
@@ -124,6 +125,7 @@ parts-item (bytes_item b) rest h = h
 parts-item (element_item tag kids) rest h = second_so (is_part (record { tag = tag; kids = kids })) (list_all is_part (elements_of rest)) h
 parts-item (idle_item t) rest h = absurd (true≢false (sym h ∙ no_parts t rest))
 
+-- where all elements from a place on are parts, so are those behind it
 pub parts-more : (nodes : List Node) (i : ℕ) (x : Node) → i < length nodes → x ≡ get_or nodes i x → list_all is_part (elements_of (nodes_of (drop i nodes))) ≡ true
     → list_all is_part (elements_of (nodes_of (drop (i + 1) nodes))) ≡ true
 parts-more nodes i x within is all =

@@ -231,6 +231,7 @@ carried_same reader files brought (join journals) names others one other same is
 carried_same reader files brought (check p) names others one other same is too = same_ok (sym is ∙ too)
 carried_same reader files brought (sample number) names others one other same is too = same_ok (sym is ∙ too)
 
+-- the order in which journals are named does not count, for each command
 pub order_does_not_count : (reader : Reader) (files : Files) (brought : Brought) → OrderDoesNotCount reader files brought
 order_does_not_count reader files brought words others command names more same is too written again =
     let one = is_made (writing_of reader files brought (reader.command words)) written in

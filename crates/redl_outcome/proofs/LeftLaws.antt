@@ -143,6 +143,7 @@ leaves reader files brought (view_text other view) name writing named is = absur
 leaves reader files brought (check other) name writing named is = absurd (cc named)
 leaves reader files brought (sample number) name writing named is = absurd (cc named)
 
+-- what a command that decides writes is what the pass leaves of its package
 pub leaves_sound : (reader : Reader) (words : List (List ℕ)) (files : Files) (brought : Brought) → LeavesSound reader words files brought
 leaves_sound reader words files brought command name commands named written =
     let made = is_made (writing_of reader files brought (reader.command words)) written in

@@ -104,6 +104,7 @@ get-later e more (suc k) h = let is : k ≡ suc k - 1 = omega arith in ap (slice
 
 -- ---- tables
 
+-- with nothing else to take, the first is taken
 pub or_else-none : {A : Type 0} (o : Option A) → or_else o None ≡ o
 or_else-none None = refl
 or_else-none (Some x) = refl
@@ -116,6 +117,7 @@ or_else-first : {A : Type 0} (o other : Option A) → is_some o ≡ false → or
 or_else-first None other h = refl
 or_else-first (Some x) other h = absurd cc
 
+-- of three the first that is there is taken
 pub or_else-assoc : {A : Type 0} (a b c : Option A) → or_else (or_else a b) c ≡ or_else a (or_else b c)
 or_else-assoc None b c = refl
 or_else-assoc (Some x) b c = refl

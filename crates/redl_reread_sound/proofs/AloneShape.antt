@@ -106,5 +106,6 @@ refusal-alone nodes = ap refusal_of (ap package_in (only-alone nodes) ∙ packag
 refusal-together : (nodes : Nodes) → refusal (together nodes) ≡ refusal nodes
 refusal-together nodes = sym (refusal-alone (together nodes)) ∙ ap refusal (alone-together nodes) ∙ refusal-alone nodes
 
+-- the shape of a package is the same once it is read again
 pub shape-again : (nodes : Nodes) → refusal (unlabelled (together nodes)) ≡ refusal nodes
 shape-again nodes = refusal-unlabelled (together nodes) ∙ refusal-together nodes

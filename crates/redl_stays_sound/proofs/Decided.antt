@@ -390,5 +390,6 @@ none_of says (x ∷ xs) h =
     (none_decided says _ (pass says (x.tag ∷ []) x.kids) (left-pass says (x.tag ∷ []) x.kids h.0.fits))
     ∙ ap (λ (later : List (List Placed)). [] ∷ later) (none_of says xs h.1)
 
+-- no revision stays that was accepted or rejected
 pub decided_go : (value : Value) → DecidedGo value
 decided_go value says nodes indexed = ap (λ (xs : List Element). map (decided says) xs) (stories-pass says nodes) ∙ none_of says (stories nodes) (indexed_stories value nodes indexed)

@@ -87,6 +87,7 @@ end_placed scope tag kids space fs before h e =
     let same : element tag kids no_nodes ≡ element (tag_in scope tag (End space)) kids no_nodes = ap (λ (t : Tag). element t kids no_nodes) (tag_is scope tag (End space) h e) in
     rw (name_same (name_of tag)) (ap (λ (x : Nodes). Some (state fs (before ⊕ x) (drop (declared_in tag.tail) (scope_in tag.tail scope)))) (sym same) ∙ ap (λ (sc : Scope). Some (state fs (before ⊕ element tag kids no_nodes) sc)) (left_again tag.tail scope))
 
+-- before nodes that begin with an element a stretch of text ends
 pub nodes_end_stretch : (scope : Scope) (x : Nodes) (y : List ℕ) → AreLegal scope x → begins_with_bytes x ≡ false → ends_stretch y ≡ true → ends_stretch (tree_then x y) ≡ true
 nodes_end_stretch scope no_nodes y h first end = end
 nodes_end_stretch scope (bytes b rest) y h first end = absurd cc

@@ -69,6 +69,7 @@ pub record HasBytes (place : Section) (x : Nodes) : Type 0 where
   pub is : x ≡ bytes_or_none bytes_of
   pub legal : (bytes_of ≡ []) ⊎ IsStretch place bytes_of
 
+-- a stretch of text, or none, as bytes
 pub has_bytes : (place : Section) (x : Nodes) → IsStretchOrNone place x → HasBytes place x
 has_bytes place no_nodes h = record { bytes_of = []; is = refl; legal = inl refl }
 has_bytes place (bytes b no_nodes) h = record { bytes_of = b; is = filled b h.filled; legal = inr h } where
@@ -97,6 +98,7 @@ bytes_then : (b y : List ℕ) → tree_then (bytes_or_none b) y ≡ b ++ y
 bytes_then [] y = refl
 bytes_then (c ∷ cs) y = refl
 
+-- the text of a document: what stands before its root, the root, and what stands behind
 pub whole_then : (b a : List ℕ) (u : Nodes) → text (bytes_or_none b ⊕ (u ⊕ bytes_or_none a)) ≡ b ++ tree_then u a
 whole_then b a u =
     let whole : Nodes = bytes_or_none b ⊕ (u ⊕ bytes_or_none a) in

@@ -21,15 +21,18 @@ ordinary name =
     not (bytes_eq (codes "delText") (codes name) || bytes_eq (codes "delInstrText") (codes name)
     || bytes_eq (codes "t") (codes name) || bytes_eq (codes "instrText") (codes name))
 
+-- two tags that every rule treats alike
 pub record Like (a b : Tag) : Type 0 where
   pub name : (n : String) → ordinary n ≡ true → is n b ≡ is n a
   pub space : b.space ≡ a.space
   pub math : (n : String) → is_math n b ≡ is_math n a
   pub local : is_quiet a ≡ true → b.local ≡ a.local
 
+-- a tag is like itself
 pub like_self : (a : Tag) → Like a a
 like_self a = record { name = λ n o. refl; space = refl; math = λ n. refl; local = λ q. refl }
 
+-- two paragraphs are alike
 pub like_p : (a b : Tag) → is "p" a ≡ true → is "p" b ≡ true → Like a b
 like_p a b p q =
     let x = named "p" a p in
@@ -106,19 +109,23 @@ like_close a b l c = record { name = l.name; space = l.space; math = l.math; loc
 ap2_or : (a b c d : Bool) → a ≡ c → b ≡ d → (a || b) ≡ (c || d)
 ap2_or a b c d p q = rw (p, q) refl
 
+-- alike tags have the same of any ordinary names
 pub like_any : (names : List String) (a b : Tag) → Like a b → list_all ordinary names ≡ true → is_any names b ≡ is_any names a
 like_any [] a b l o = refl
 like_any (n ∷ names) a b l o =
     let both = and_parts (ordinary n) (list_all ordinary names) o in
     ap2_or (is n b) (is_any names b) (is n a) (is_any names a) (l.name n both.0) (like_any names a b l both.1)
 
+-- both hold properties, or neither does
 pub like_quiet : (a b : Tag) → Like a b → is_quiet b ≡ is_quiet a
 like_quiet a b l =
     ap2_or _ _ _ _ (like_any ("pPr" ∷ "rPr" ∷ "sectPr" ∷ "tblPr" ∷ "tblPrEx" ∷ "trPr" ∷ "tcPr" ∷ "sdtPr" ∷ "sdtEndPr" ∷ "tblGrid" ∷ []) a b l refl) (l.math "ctrlPr")
 
+-- both are the same kind of content revision, or neither is one
 pub like_trace : (a b : Tag) → Like a b → trace_of b ≡ trace_of a
 like_trace a b l = rw (l.name "ins" refl, l.name "del" refl, l.name "moveFrom" refl, l.name "moveTo" refl) refl
 
+-- both are a change of the same properties, or neither is one
 pub like_prop : (a b : Tag) → Like a b → prop_of b ≡ prop_of a
 like_prop a b l =
     rw (l.name "rPrChange" refl, l.name "pPrChange" refl, l.name "sectPrChange" refl, l.name "tblPrChange" refl, l.name "tblPrExChange" refl, l.name "trPrChange" refl, l.name "tcPrChange" refl) refl

@@ -131,6 +131,7 @@ three ext ancestors tag kids rest r =
       after = record { rule_1 = s1.after; rule_2 = s2.after; rule_3 = s3.after; rule_4 = s4.after; rule_5 = s5.after; rule_6 = s6.after; rule_8 = s8.after; own = sx.after };
     }
 
+-- where every rule holds, each element below the root stands as it has to
 pub ground : (ext : Test) (ancestors : List Tag) (nodes : Nodes) → AllFit ancestors nodes → AllRules ext ancestors nodes → Ground ext ancestors nodes
 ground ext ancestors no_nodes f r = tt
 ground ext ancestors (bytes b rest) f r =

@@ -26,6 +26,7 @@ use Rattle.redl_tree.proofs.Roles.Named.{AllNames, by_name, by_names, by_trace}
 use Rattle.redl_tree.proofs.Roles.Fits.{open_∷, open_head, open_tail, true_false}
 use Rattle.redl_laws.proofs.Soundness.AlikeTags.{Like, ordinary, like_quiet, like_trace, like_prop, like_thick, like_any, like_has_blocks, like_into, like_run_props}
 
+-- an implication, from a proof of it
 pub implies_from : (a b : Bool) → (a ≡ true → b ≡ true) → implies a b ≡ true
 implies_from true b h = h refl
 implies_from false b h = refl
@@ -35,10 +36,12 @@ pub implies_of : (a b : Bool) → implies a b ≡ true → a ≡ true → b ≡ 
 implies_of true b h e = h
 implies_of false b h e = absurd (true≢false (sym e))
 
+-- what is false is not true
 pub not_to : (b : Bool) → not b ≡ true → b ≡ true → ⊥
 not_to true e h = true≢false (sym e)
 not_to false e h = true≢false (sym h)
 
+-- and what is not true is false
 pub not_of : (b : Bool) → (b ≡ true → ⊥) → not b ≡ true
 not_of true h = absurd (h refl)
 not_of false h = refl
@@ -48,6 +51,7 @@ abbrev pub past_content : List Tag → List Tag
 past_content [] = []
 past_content (tag ∷ ancestors) = if is_some (trace_of tag) then past_content ancestors else tag ∷ ancestors
 
+-- among blocks is in a list of blocks, past the content revisions around it
 pub among-past : (ancestors : List Tag) → among_blocks ancestors ≡ in_blocks (past_content ancestors)
 among-past [] = refl
 among-past (tag ∷ ancestors) = at (is_some (trace_of tag)) (among-past ancestors)
@@ -75,6 +79,7 @@ kid_3 ancestors tag kids =
     && implies (open_any ("rPr" ∷ "sdtContent" ∷ []) ancestors tag) (not (in_content ancestors))
     && implies (is_thick tag && in_content ancestors) (not (in_blocks (past_content ancestors)))
 
+-- what rule 3 says of an element, in its parts
 pub free3 : (ancestors : List Tag) (tag : Tag) (kids : Nodes) → kid_3 ancestors tag kids ≡ true → Free3 ancestors tag
 free3 ancestors tag kids e =
     let x = and_parts _ _ e in
@@ -128,6 +133,7 @@ came_loud old new (restored {old = o} {new = n} a b ch f c l q r) =
     rw (like_quiet a b l, q) (sym (or_right (is_quiet f) (is_quiet ch || true) (or_right (is_quiet ch) true refl)))
 came_loud old new (joins {old = o} {new = n} b c e) = rw (by_name (λ t. is_quiet t ≡ false) "p" b e refl) (came_loud o n c)
 
+-- ancestors in the result are as open as those that they came from
 pub came_open : (old new : List Tag) → Came old new → is_open new ≡ is_open old
 came_open old new c = ap not (came_loud old new c)
 
@@ -169,6 +175,7 @@ came_in old new (joins {old = p} {new = n} b c h) o e =
 
 -- what a list is to a document, Blocks alone
 
+-- how a list below these ancestors is reached
 abbrev pub reach_of : List Tag → Reach
 reach_of [] = Beyond
 reach_of (tag ∷ ancestors) =
@@ -218,6 +225,7 @@ place_reach (tag ∷ ancestors) =
     at true = inside_reach tag (place ancestors) (has_blocks tag) (is "tbl" tag) (is "tr" tag)
     at false = refl
 
+-- a list of blocks is a direct one
 pub in_blocks-reach : (ancestors : List Tag) → in_blocks ancestors ≡ is_direct (reach_of ancestors)
 in_blocks-reach ancestors = at (place ancestors).lot (place ancestors).reach ∙ ap is_direct (place_reach ancestors)
   where
@@ -372,6 +380,7 @@ open_any_like : (names : List String) (old new : List Tag) (a b : Tag) → Came 
     open_any names new b ≡ open_any names old a
 open_any_like names old new a b c l o = rw (like_any names a b l o, came_open old new c) refl
 
+-- content revisions do not change whether ancestors are open
 pub past_open : (ancestors : List Tag) → is_open (past_content ancestors) ≡ is_open ancestors
 past_open [] = refl
 past_open (a ∷ ancestors) = at (is_some (trace_of a)) refl (past_open ancestors)
@@ -445,6 +454,7 @@ no_content_change ancestors (Some prop) = at (in_props prop ancestors)
     at true = refl
     at false = refl
 
+-- content revisions are the elements of their names in open ancestors
 pub content_role : (ancestors : List Tag) (tag : Tag) → is_content (role ancestors tag) ≡ (is_open ancestors && is_some (trace_of tag))
 content_role ancestors tag =
     content_first _
@@ -472,6 +482,7 @@ some_prop false false false false false true g = refl
 some_prop false false false false false false true = refl
 some_prop false false false false false false false = refl
 
+-- what holds of each name of a change of properties, holds of such a change
 pub by_prop : (P : Tag → Type 0) (tag : Tag) → is_some (prop_of tag) ≡ true → AllNames P tag ("rPrChange" ∷ "pPrChange" ∷ "sectPrChange" ∷ "tblPrChange" ∷ "tblPrExChange" ∷ "trPrChange" ∷ "tcPrChange" ∷ []) → P tag
 by_prop P tag e h =
     by_names P ("rPrChange" ∷ "pPrChange" ∷ "sectPrChange" ∷ "tblPrChange" ∷ "tblPrExChange" ∷ "trPrChange" ∷ "tcPrChange" ∷ []) tag
@@ -542,6 +553,7 @@ within-owned : (name : String) (ancestors : List Tag) → within (name ∷ []) a
 within-owned name [] = refl
 within-owned name (tag ∷ ancestors) = refl
 
+-- former properties stood below a change
 pub restored_change : (a ch f : Tag) (o : List Tag) → is_change (role (a ∷ o) ch) ≡ true → below_change (f ∷ ch ∷ a ∷ o) ≡ true
 restored_change a ch f o e =
     or_right (is_change (role (ch ∷ a ∷ o) f)) (is_change (role (a ∷ o) ch) || below_change (a ∷ o)) (rw e refl)
@@ -555,6 +567,7 @@ owner_came test like no_p old new (restored {old = p} {new = n} a b ch f c l q r
 owner_came test like no_p old new (joins {old = p} {new = n} b c h) g e =
     absurd (true_false (test b) (and_parts (test b) (is_open n) e).0 (no_p b h))
 
+-- right in a content revision is below one
 pub in_below : (ancestors : List Tag) → in_content ancestors ≡ true → below_content ancestors ≡ true
 in_below [] e = e
 in_below (a ∷ ancestors) e =
@@ -672,15 +685,18 @@ stood_or false y x' y' old h k e = right (k e)
     right (inl s) = inl (or_right x' y' s)
     right (inr s) = inr s
 
+-- properties of a mark in the result stood at such a place, or below a change
 pub mark_came : (old new : List Tag) → Came old new → in_mark_props new ≡ true → Stood old (in_mark_props old)
 mark_came = three_came "rPr" "pPr" "p" refl refl owner_para quiet_rPr quiet_pPr
 
 pub para_came : (old new : List Tag) → Came old new → within ("pPr" ∷ "p" ∷ []) new ≡ true → Stood old (within ("pPr" ∷ "p" ∷ []) old)
 para_came = two_came "pPr" "p" refl owner_para quiet_pPr
 
+-- the same of properties of a row
 pub row_came : (old new : List Tag) → Came old new → in_row_props new ≡ true → Stood old (in_row_props old)
 row_came = two_came "trPr" "tr" refl (owner_other "trPr" "tr" refl (λ b h. by_name (λ t. is "tr" t ≡ false) "p" b h refl) (guard_below "trPr" (λ a e. by_name (λ t. is_any banned t ≡ true) "trPr" a e refl))) (λ t e. by_name (λ t. is_quiet t ≡ true) "trPr" t e refl)
 
+-- and of a cell
 pub cell_came : (old new : List Tag) → Came old new → in_cell_props new ≡ true → Stood old (in_cell_props old)
 cell_came = two_came "tcPr" "tc" refl (owner_other "tcPr" "tc" refl (λ b h. by_name (λ t. is "tc" t ≡ false) "p" b h refl) (guard_below "tcPr" (λ a e. by_name (λ t. is_any banned t ≡ true) "tcPr" a e refl))) (λ t e. by_name (λ t. is_quiet t ≡ true) "tcPr" t e refl)
 

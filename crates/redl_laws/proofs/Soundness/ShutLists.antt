@@ -44,6 +44,7 @@ pub record NoChange (tag : Tag) : Type 0 where
   pub prop : is_some (prop_of tag) ≡ false
   pub names : is_any ("p" ∷ "tbl" ∷ "tr" ∷ "tc" ∷ "txbxContent" ∷ []) tag ≡ false
 
+-- below a change stands no other one and no paragraph, table or text box, by rule 8
 pub rule_8_of : (ancestors : List Tag) (tag : Tag) (kids : Nodes) → test_8 ancestors tag kids ≡ true → below_change ancestors ≡ true → NoChange tag
 rule_8_of ancestors tag kids h e =
     let both = or_parts (is_some (prop_of tag)) (is_any ("p" ∷ "tbl" ∷ "tr" ∷ "tc" ∷ "txbxContent" ∷ []) tag)

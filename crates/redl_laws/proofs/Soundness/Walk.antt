@@ -46,6 +46,7 @@ pub record Stands (ext : Test) (ancestors : List Tag) (tag : Tag) (kids : Nodes)
   pub fits : Fits ancestors tag
   pub rules : Holds ext ancestors tag kids
 
+-- each element of a list and below it stands as it has to
 abbrev pub Ground : (ext : Test) → List Tag → Nodes → Type 0
 Ground ext ancestors no_nodes = Unit {0}
 Ground ext ancestors (bytes b rest) = Ground ext ancestors rest
@@ -53,6 +54,7 @@ Ground ext ancestors (element tag kids rest) = Stands ext ancestors tag kids × 
 
 -- Tests and lists
 
+-- a test that holds everywhere in two lists does so in both together
 pub everywhere-⊕ : (test : Test) (ancestors : List Tag) (xs ys : Nodes) → everywhere test ancestors xs ≡ true → everywhere test ancestors ys ≡ true →
     everywhere test ancestors (xs ⊕ ys) ≡ true
 everywhere-⊕ test ancestors no_nodes ys p q = q
@@ -61,14 +63,17 @@ everywhere-⊕ test ancestors (element tag kids rest) ys p q =
     let x = and_parts (test ancestors tag kids && everywhere test (tag ∷ ancestors) kids) (everywhere test ancestors rest) p in
     and_from _ _ x.0 (everywhere-⊕ test ancestors rest ys x.1 q)
 
+-- and in a list of one element, if it does so there and below
 pub everywhere-one : (test : Test) (ancestors : List Tag) (tag : Tag) (kids : Nodes) → test ancestors tag kids ≡ true → everywhere test (tag ∷ ancestors) kids ≡ true →
     everywhere test ancestors (one tag kids) ≡ true
 everywhere-one test ancestors tag kids p q = and_from _ _ (and_from _ _ p q) refl
 
+-- what holds of two lists holds of either choice
 pub if_both : (P : Nodes → Type 0) (b : Bool) (x y : Nodes) → (b ≡ true → P x) → (b ≡ false → P y) → P (if b then x else y)
 if_both P true x y h k = h refl
 if_both P false x y h k = k refl
 
+-- a test that holds everywhere does so among the elements of some names alone
 pub everywhere-only : (names : Tag → Bool) (test : Test) (ancestors : List Tag) (xs : Nodes) → everywhere test ancestors xs ≡ true → everywhere test ancestors (only names xs) ≡ true
 everywhere-only names test ancestors no_nodes p = refl
 everywhere-only names test ancestors (bytes b rest) p = everywhere-only names test ancestors rest p
@@ -78,6 +83,7 @@ everywhere-only names test ancestors (element tag kids rest) p =
     if_both (λ n. everywhere test ancestors n ≡ true) (names tag) (element tag kids (only names rest)) (only names rest)
     (λ e. and_from _ _ x.0 ih) (λ e. ih)
 
+-- and without them
 pub everywhere-without : (names : Tag → Bool) (test : Test) (ancestors : List Tag) (xs : Nodes) → everywhere test ancestors xs ≡ true → everywhere test ancestors (without names xs) ≡ true
 everywhere-without names test ancestors no_nodes p = refl
 everywhere-without names test ancestors (bytes b rest) p = everywhere-without names test ancestors rest p
@@ -99,6 +105,7 @@ pub record Stays (says : List Say) (old : List Tag) (tag : Tag) (kids : Nodes) :
   pub lives : goes_at says old tag kids ≡ false
   pub other : is "p" tag ≡ false
 
+-- the kids that a kept element has in the result
 abbrev pub made : List Say → List Tag → Tag → Nodes → Nodes
 made says old tag kids = kept_kids says old tag kids (pass says (tag ∷ old) kids)
 
@@ -219,6 +226,7 @@ rejected_cases true (Change prop) kids later u e =
 rejected_cases true Marker kids later u e = inr e
 rejected_cases false k kids later u e = inr e
 
+-- a change that is rejected stands among the nodes, as it has to
 pub rejected_found : (ext : Test) → (says : List Say) (ancestors : List Tag) (nodes : Nodes) (u : Rejected) → Ground ext ancestors nodes → rejected says nodes ≡ Some u → Found ext ancestors u
 rejected_found ext says ancestors no_nodes u g e = cc
 rejected_found ext says ancestors (bytes b rest) u g e = rejected_found ext says ancestors rest u g e
@@ -244,6 +252,7 @@ former_found ext local ancestors (element tag kids rest) g = at (named local tag
     at true ih = inr (tag, g.1)
     at false ih = ih
 
+-- its former properties are none, or stand as they have to
 pub rejected_former : (ext : Test) → (ancestors : List Tag) (u : Rejected) (f : Found ext ancestors u) →
     (u.former ≡ no_nodes) ⊎ ((x : Tag) × Ground ext (x ∷ f.change ∷ ancestors) u.former)
 rejected_former ext ancestors u f = rw f.former_is at (former_found ext (props_name u.prop) (f.change ∷ ancestors) f.kids f.ground)
@@ -266,6 +275,7 @@ or_same true y a b e h = h refl
 or_same false true a b e h = refl
 or_same false false a b e h = absurd (true≢false (sym e))
 
+-- what holds properties has a name for them
 pub props_owner : (prop : Prop) (tag : Tag) (ancestors : List Tag) → in_props prop (tag ∷ ancestors) ≡ true → is (owner_of prop) tag ≡ true
 props_owner Run tag ancestors e = at (in_run_props (tag ∷ ancestors)) refl e
   where
@@ -279,6 +289,7 @@ props_owner Except tag ancestors e = (and_parts (is "tblPrEx" tag) (within ("tr"
 props_owner RowProp tag ancestors e = (and_parts (is "trPr" tag) (within ("tr" ∷ []) ancestors) e).0
 props_owner CellProp tag ancestors e = (and_parts (is "tcPr" tag) (within ("tc" ∷ []) ancestors) e).0
 
+-- and is quiet
 pub owner_quiet : (prop : Prop) (tag : Tag) → is (owner_of prop) tag ≡ true → is_quiet tag ≡ true
 owner_quiet Run tag e = by_name (λ t. is_quiet t ≡ true) "rPr" tag e refl
 owner_quiet ParaProp tag e = by_name (λ t. is_quiet t ≡ true) "pPr" tag e refl
@@ -288,6 +299,7 @@ owner_quiet Except tag e = by_name (λ t. is_quiet t ≡ true) "tblPrEx" tag e r
 owner_quiet RowProp tag e = by_name (λ t. is_quiet t ≡ true) "trPr" tag e refl
 owner_quiet CellProp tag e = by_name (λ t. is_quiet t ≡ true) "tcPr" tag e refl
 
+-- a change stands in what holds its properties
 pub change_props : (ancestors : List Tag) (ch : Tag) (prop : Prop) → role ancestors ch ≡ Change prop → in_props prop ancestors ≡ true
 change_props ancestors ch prop e = at (prop_of ch) refl
   where
@@ -379,6 +391,7 @@ p_made ext says old a kids e g = at (rejected says kids) refl
 
 -- Pieces
 
+-- a test holds everywhere in a piece, also where a paragraph takes it up
 abbrev pub GoodPiece : Test → List Tag → GroupPiece → Type 0
 GoodPiece test new (para tag cut kids) =
     (is "p" tag ≡ true) × ((b : Tag) → is "p" b ≡ true → everywhere test (b ∷ new) kids ≡ true) × (test new tag kids ≡ true)
@@ -387,6 +400,7 @@ GoodPiece test new (thin nodes) =
 GoodPiece test new (thick nodes) =
     (everywhere test new nodes ≡ true) × ((b : Tag) → is "p" b ≡ true → everywhere test (b ∷ new) (without (is "pPr") nodes) ≡ true)
 
+-- and in each of several
 abbrev pub GoodPieces : Test → List Tag → List GroupPiece → Type 0
 GoodPieces test new [] = Unit {0}
 GoodPieces test new (p ∷ ps) = GoodPiece test new p × GoodPieces test new ps
@@ -464,6 +478,7 @@ given_good test j new (thin nodes) None joining followed g h = g.0
 given_good test j new (thin nodes) (Some held) joining followed g h = refl
 given_good test j new (thick nodes) held joining followed g h = g.0
 
+-- then it holds everywhere in the list that they are grouped to
 pub grouped_good : (test : Test) → Joins test → (new : List Tag) (followed : Bool) (held : Option Nodes) (ps : List GroupPiece) → GoodPieces test new ps → GoodHeld test new held →
     everywhere test new (grouped_from followed held ps) ≡ true
 grouped_good test j new followed held [] g h = refl
@@ -479,6 +494,7 @@ pub record Settled (old new : List Tag) : Type 0 where
   pub para : (a : Tag) → Free3 old a → Para old new a
   pub mark : NoMarkBelow old new
 
+-- a change has the name of one
 pub change_name : (ancestors : List Tag) (a : Tag) → is_change (role ancestors a) ≡ true → is_some (prop_of a) ≡ true
 change_name ancestors a e = at (prop_of a) (sym (change_role ancestors a) ∙ e)
   where
@@ -486,6 +502,7 @@ change_name ancestors a e = at (prop_of a) (sym (change_role ancestors a) ∙ e)
     at None h = h
     at (Some p) h = refl
 
+-- a kept element settles its kids
 pub settled_kept : (old new : List Tag) (a b : Tag) → Came old new → Like a b → Settled (a ∷ old) (b ∷ new)
 settled_kept old new a b c l = record {
   para = λ x f e o. inl (rw (l.name "p" refl, came_open old new c) at o);
@@ -497,6 +514,7 @@ settled_kept old new a b c l = record {
         (l.name "pPr" refl ∙ by_prop (λ t. is "pPr" t ≡ false) a (change_name old a e) (refl, (refl, (refl, (refl, (refl, (refl, (refl, tt))))))))
     at (inr e) = and_right (is "pPr" b) (within ("p" ∷ []) new) (shut_para new (came_open old new c ∙ change_shut old e))
 
+-- and so does one that is freed
 pub settled_freed : (old new : List Tag) (a : Tag) → is_some (trace_of a) ≡ true → is_open old ≡ true → Settled (a ∷ old) new
 settled_freed old new a t o = record {
   para = λ x f e p.
@@ -514,6 +532,7 @@ settled_freed old new a t o = record {
 settled_mark_joins : (old new : List Tag) (b : Tag) → is "p" b ≡ true → NoMarkBelow old (b ∷ new)
 settled_mark_joins old new b e h = and_left (is "pPr" b) (within ("p" ∷ []) new) (by_name (λ t. is "pPr" t ≡ false) "p" b e refl)
 
+-- what is labelled as a content revision is one, in open ancestors
 pub content_fits : (old : List Tag) (a : Tag) → Fits old a → is_content a.kind ≡ true → (is_open old ≡ true) × (is_some (trace_of a) ≡ true)
 content_fits old a (inl k) e = and_parts (is_open old) (is_some (trace_of a)) (sym (content_role old a) ∙ ap is_content (sym k) ∙ e)
 content_fits old a (inr m) e = absurd (true≢false (sym e ∙ ap is_content m.kind))

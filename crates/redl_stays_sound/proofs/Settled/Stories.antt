@@ -40,6 +40,7 @@ settles-all value has_id declares says nodes indexed sound said =
     ap (holds has_no_role) (stories-pass says nodes)
     ∙ all-settled says (stories nodes) are (grounded has_id declares (stories nodes) are (nine has_id declares nodes sound)) said
 
+-- where all are decided none is left
 pub all-settle : (value : Value) (has_id declares : List ℕ → Bool) → AllSettle value has_id declares
 all-settle value has_id declares says nodes sound many decided =
     let is = numbered_sound value has_id declares nodes sound in

@@ -175,6 +175,7 @@ stay-in says (x ∷ xs) ground = (
   stay-in says xs ground.2,
 )
 
+-- a revision without a decision stays
 pub kept-stay : (value : Value) (has_id declares : List ℕ → Bool) → AllKeptStay value has_id declares
 kept-stay value has_id declares says nodes indexed sound =
     subst (λ (news : List Element). StayIn says (stories nodes) news) (sym (stories-pass says nodes))
