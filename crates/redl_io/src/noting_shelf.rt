@@ -1,24 +1,26 @@
 //! A shelf that notes what it is asked for.
 
 ghost use Rattle.std.specs.Prelude.{◌≡◌, ◌++◌, ◌∷◌, [], Some, OnErr, OnOk};
+ghost use Rattle.redl_io.specs.Shelf.{request_for};
 
-use crate::{Shelf, ShelfError, Text};
+use crate::{Request, Shelf, ShelfError, Text};
 use std::alloc::{AllocError, Global};
 use std::marker::Model;
 
-/// Fetches all texts from another shelf, and notes their names first. Where no memory is left for a name, it isn't asked for.
+/// Fetches all texts from another shelf, and notes first what it is asked for. Where no memory is left for that, nothing is fetched.
 #[derive(Drop)]
 pub struct NotingShelf<F> {
     shelf: F,
-    names: Vec<Text>,
+    requests: Vec<Request>,
 }
 
 impl<F> Model for NotingShelf<F> {
-    ghost use Rattle.std.specs.Prelude.{List, ℕ};
+    ghost use Rattle.std.specs.Prelude.{List};
+    ghost use Rattle.redl_io.specs.declared.shelf.Request.{Request};
 
-    ghost Value = { F × List (List ℕ) };
+    ghost Value = { F × List Request };
 
-    ghost view = { λ noting. (noting.shelf, noting.names.items) };
+    ghost view = { λ noting. (noting.shelf, noting.requests.items) };
 }
 
 impl<F: Shelf> NotingShelf<F> {
@@ -28,15 +30,15 @@ impl<F: Shelf> NotingShelf<F> {
     {
         NotingShelf {
             shelf,
-            names: Vec::new(alloc),
+            requests: Vec::new(alloc),
         }
     }
 
-    /// The names that it was asked for, the first one first.
-    pub fn names(&self) -> &[Text]
+    /// What it was asked for, the first request first.
+    pub fn requests(&self) -> &[Request]
         ensures { result.now ≡ self.now.1 }
     {
-        &self.names
+        &self.requests
     }
 }
 
@@ -48,16 +50,22 @@ impl<F: Shelf> Shelf for NotingShelf<F> {
     ghost asked = { λ noting. Some noting.1 };
 
     fn fetch(&mut self, alloc: Global, name: &str, cap: usize) -> Result<Vec<u8>, ShelfError> {
-        note(alloc, &mut self.names, name)?;
+        note(alloc, &mut self.requests, name, cap)?;
         self.shelf.fetch(alloc, name, cap)
     }
 }
 
-// Adds the name.
-fn note(alloc: Global, names: &mut Vec<Text>, name: &str) -> Result<(), AllocError>
-    ensures noted { OnOk result (names.new.items ≡ names.old.items ++ name.now ∷ []) }
-    ensures same { OnErr result (names.new.items ≡ names.old.items) }
+// Adds the request for this text.
+fn note(
+    alloc: Global,
+    requests: &mut Vec<Request>,
+    name: &str,
+    cap: usize,
+) -> Result<(), AllocError>
+    ensures noted { OnOk result (requests.new.items ≡ requests.old.items ++ request_for name.now cap ∷ []) }
+    ensures same { OnErr result (requests.new.items ≡ requests.old.items) }
 {
-    names.push(Text::copy_of(alloc, name.as_bytes())?)?;
+    let name = Text::copy_of(alloc, name.as_bytes())?;
+    requests.push(Request { name, cap })?;
     Ok(())
 }
