@@ -1,5 +1,5 @@
 //! What nobody may decide.
-ghost use Rattle.std.specs.Prelude.{◌≡◌, IfOk};
+ghost use Rattle.std.specs.Prelude.{◌≡◌, false, IfOk, IsOk};
 
 use crate::rev_kind::RevKind;
 use redl_io::Text;
@@ -22,7 +22,10 @@ impl Lock {
 
     /// An equal lock. `Err` means out of memory.
     pub fn copy(&self, alloc: Global) -> Result<Lock, AllocError>
-        ensures { IfOk result (λ lock. lock ≡ self.now) }
+        ensures equal { IfOk result (λ lock. lock ≡ self.now) }
+
+        // Only an author's name takes memory.
+        ensures succeeds { is_author self.now ≡ false → IsOk result }
     {
         match self {
             Lock::Author(name) => Ok(Lock::Author(name.copy(alloc)?)),
