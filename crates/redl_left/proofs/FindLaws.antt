@@ -1,9 +1,7 @@
--- What idle elements are found to be, which are kept as text, is what the walk over the text shows; and finds of nodes one after
--- the other.
-use Rattle.std.proofs.Common.{◌≡◌, ◌∙◌, refl, sym, ap, ℕ, List, [], ◌∷◌, ◌++◌, append_assoc, append-nil, Bool, true, false, true≢false, Option, None, Some, ◌&&◌, if◌then◌else◌, codes, ◌<◌, ◌+◌, length, get_or, drop, map}
+-- What an idle element is found to be, and finds of nodes one after the other.
+use Rattle.std.proofs.Common.{◌≡◌, ◌∙◌, refl, sym, ap, ℕ, List, [], ◌∷◌, ◌++◌, append_assoc, Bool, true, false, true≢false, Option, None, Some, ◌&&◌, if◌then◌else◌, codes, ◌<◌, ◌+◌, length, get_or, drop, map}
 use Rattle.std.proofs.lemmas.List.{drop_more}
 use Rattle.redl_tree.specs.Model.Nodes.{Tag, Nodes, no_nodes, bytes, element, ◌⊕◌}
-use Rattle.redl_tree.specs.Model.IdleTexts.{idle_nodes}
 use Rattle.redl_tree.specs.Roles.Names.{is, is_w}
 use Rattle.redl_tree.specs.Roles.Idle.{is_idle_in}
 use Rattle.redl_tree.specs.declared.kinds.Kind.{Kind}
@@ -12,15 +10,12 @@ use Rattle.redl_tree.specs.Model.Kids.{has_element}
 use Rattle.redl_tree.specs.declared.kinds.Space.{Space}
 use Rattle.redl_tree.specs.declared.kinds.Space.TheVariants as spaces
 use Rattle.redl_tree.proofs.Idle.Tags.{Idle, idle_parts}
-use Rattle.redl_tree.proofs.Idle.Items.{nodes_are_idle}
 use Rattle.redl_stamp.specs.Attribute.{attribute_value}
-use Rattle.redl_idle.specs.Shows.{shows}
 use Rattle.redl_left.specs.declared.row.Row.{Row}
 use Rattle.redl_left.specs.declared.row.Where.{Where}
 use Rattle.redl_left.specs.declared.row.Where.TheVariants.{Word, AnyWord, Inside, Part}
 use Rattle.redl_left.specs.declared.row.Value.{Value}
 use Rattle.redl_left.specs.declared.row.Value.TheVariants.{Nothing, Attribute, Author, Made, Shown, Held, Lead}
-use Rattle.redl_left.specs.declared.walk.Below.{Below}
 use Rattle.redl_left.specs.Finds.{Find, Table, asks, asks_place, asks_when, first_row, found, found_by, found_idle, found_names, found_plain, found_row, found_text, found_value, inner_shown, kind_in, shown_alone, part_of, is_part_name, value_of, value_or_nothing, finds}
 use Rattle.redl_left.specs.Named.{named_of}
 use Rattle.redl_left.specs.Search.{rows_at, table_of}
@@ -28,7 +23,6 @@ use Rattle.redl_left.specs.declared.search.Search.{Search}
 use Rattle.redl_left.specs.declared.search.Search.TheVariants.{Naming, Asking}
 use Rattle.redl_left.specs.declared.rows.TheConstants.{NAMING, ROWS}
 use Rattle.redl_left.specs.declared.fact.Fact.{Fact}
-use Rattle.redl_left.specs.Encoded.{encoded, encoded-append, idle_rule}
 
 -- ---- of an element of W the parent and the kids do not matter
 
@@ -97,40 +91,14 @@ module _ (search : Search) (part parent : List ℕ) (in_run : Bool) (tag : Tag) 
   kind_idle : kind_in table tag.kind ≡ kinds.Plain
   kind_idle = ap (kind_in table) i.kind ∙ plain_kind table.by_kind
 
-  found_so : found table part parent tag kids ≡ found_idle table part tag.local tag.tail
+  pub found_so : found table part parent tag kids ≡ found_idle table part tag.local tag.tail
   found_so =
       ap (λ (k : Kind). found_by k table part parent tag.space tag.local tag.tail kids ++ found_names table part tag.tail) kind_idle
       ∙ ap (λ (s : Space). found_plain table part parent s tag.local tag.tail kids ++ found_names table part tag.tail) (is_space_w tag.space i.space)
       ∙ ap (λ (f : List Find). f ++ found_names table part tag.tail) (plain_same search part parent tag.local tag.tail kids)
 
-  part_idle : part_of part tag ≡ part
+  pub part_idle : part_of part tag ≡ part
   part_idle = ap (λ (s : Space). if is_part_name s tag.local then value_or_nothing (attribute_value tag.tail (codes "name")) else part) (is_space_w tag.space i.space)
-
-shown_by : (below : Below) (in_run : Bool) (parent : List ℕ) (x : Nodes) → is_idle_in in_run x ≡ true
-    → shows idle_rule below x ≡ encoded (finds (table_of below.search.now) below.part.now parent x)
-shown_by below in_run parent no_nodes h = refl
-shown_by below in_run parent (bytes b rest) h =
-    let own = found_text (table_of below.search.now) below.part.now b in
-    ap (λ (s : List ℕ). encoded own ++ s) (shown_by below in_run parent rest h)
-    ∙ sym (encoded-append own (finds (table_of below.search.now) below.part.now parent rest))
-shown_by below in_run parent (element tag kids rest) h =
-    let p = idle_parts in_run tag kids rest h in
-    let table = table_of below.search.now in
-    let part = below.part.now in
-    let own = found_idle table part tag.local tag.tail in
-    let below_it = shown_by below (is "r" tag) tag.local kids p.below in
-    let later = shown_by below in_run parent rest p.later in
-    ap (λ (s : List ℕ). (encoded own ++ (s ++ [])) ++ shows idle_rule below rest) below_it
-    ∙ ap (λ (s : List ℕ). (encoded own ++ s) ++ shows idle_rule below rest) (append-nil (encoded (finds table part tag.local kids)))
-    ∙ ap (λ (s : List ℕ). (encoded own ++ encoded (finds table part tag.local kids)) ++ s) later
-    ∙ ap (λ (s : List ℕ). s ++ encoded (finds table part parent rest)) (sym (encoded-append own (finds table part tag.local kids)))
-    ∙ sym (encoded-append (own ++ finds table part tag.local kids) (finds table part parent rest))
-    ∙ ap (λ (f : List Find). encoded ((f ++ finds table part tag.local kids) ++ finds table part parent rest)) (sym (found_so below.search.now part parent in_run tag kids p.own))
-    ∙ ap (λ (q : List ℕ). encoded ((found table q parent tag kids ++ finds table q tag.local kids) ++ finds table part parent rest)) (sym (part_idle below.search.now part parent in_run tag kids p.own))
-
--- the walk over a kept text shows what its nodes are found to be
-pub shown_idle : (below : Below) (parent t : List ℕ) → shows idle_rule below (idle_nodes t) ≡ encoded (finds (table_of below.search.now) below.part.now parent (idle_nodes t))
-shown_idle below parent t = shown_by below false parent (idle_nodes t) (nodes_are_idle t)
 
 -- ---- nodes one after the other
 

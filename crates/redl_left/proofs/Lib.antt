@@ -1,8 +1,9 @@
+pub mod NotedLaws
 pub mod FindLaws
 pub mod NameLaws
 pub mod FrontLaws
 pub mod AttributeLaws
 pub mod NamingLaws
 pub mod RowLaws
-pub mod EncodeLaws
+pub mod PieceLaws
 mod Worked

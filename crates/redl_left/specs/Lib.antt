@@ -6,5 +6,6 @@ pub mod Fronts
 pub mod Lines
 pub mod Naming
 pub mod Search
-pub mod Encoded
 pub mod Seen
+pub mod Pieces
+pub mod Known

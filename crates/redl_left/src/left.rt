@@ -6,11 +6,13 @@ ghost use Rattle.redl_left.specs.Lines.{left_lines, naming_tables, tables_of_nod
 ghost use Rattle.redl_left.specs.Search.{table_of};
 ghost use Rattle.redl_left.specs.Seen.{tables_of};
 
+use crate::element::Below;
 use crate::line::Line;
 use crate::named::Named;
 use crate::search::Search;
 use crate::seen::Seen;
-use crate::walk::{Below, look_nodes};
+use crate::tags::Known;
+use crate::walk::look_nodes;
 use redl_tree::Node;
 use std::alloc::{AllocError, Global};
 
@@ -41,6 +43,7 @@ fn see(alloc: Global, search: &Search<'_>, nodes: &[Node]) -> Result<Seen, Alloc
         search: &*search,
         part: b"",
     };
-    look_nodes(below, b"", nodes, &mut seen)?;
+    let mut known = Known::none(alloc)?;
+    look_nodes(&mut known, below, b"", nodes, &mut seen)?;
     Ok(seen)
 }

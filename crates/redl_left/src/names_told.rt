@@ -132,7 +132,7 @@ fn quotes_none(search: &Search<'_>, tail: &[u8]) -> bool
     true
 }
 
-// Whether it is plain that no value of a tail is the name of an author.
+// The same where authors are named.
 fn names_none(search: &Search<'_>, tail: &[u8]) -> bool
     ensures { IsTrue result → (part : List ℕ) → found_names (table_of search.now) part tail.now ≡ [] }
 {
@@ -173,7 +173,7 @@ fn note_name(
     note_value(search, part, attribute.value, seen)
 }
 
-// Notes the values of a tail that are names of authors. `Err` means out of memory.
+// Notes them attribute by attribute. `Err` means out of memory.
 fn note_among(
     search: &Search<'_>,
     part: &[u8],
@@ -190,7 +190,14 @@ fn note_among(
     Ok(())
 }
 
-/// The same; where no author is named, or none of the values begins as a name does, the attributes aren't read.
+/// Whether it is plain that no value of a tail is the name of an author.
+pub(crate) fn has_no_names(search: &Search<'_>, tail: &[u8]) -> bool
+    ensures { IsTrue result → (part : List ℕ) → found_names (table_of search.now) part tail.now ≡ [] }
+{
+    search.names_nothing(Fact::Name) || names_none(search, tail)
+}
+
+/// Notes the values of a tail that are names of authors. `Err` means out of memory.
 pub(crate) fn note_names(
     search: &Search<'_>,
     part: &[u8],
@@ -199,10 +206,8 @@ pub(crate) fn note_names(
 ) -> Result<(), AllocError>
     ensures { OnOk result (tables_of seen.new ≡ noted_all (tables_of seen.old) (found_names (table_of search.now) part.now tail.now)) }
 {
-    if search.names_nothing(Fact::Name) {
-        return Ok(());
-    }
-    if names_none(search, tail) {
+    // Mostly the attributes need not be read.
+    if has_no_names(search, tail) {
         return Ok(());
     }
     note_among(search, part, tail, seen)

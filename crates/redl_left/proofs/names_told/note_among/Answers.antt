@@ -3,7 +3,7 @@ use Rattle.std.proofs.Common.{ap, sym, ◌∙◌, List, ℕ}
 use Rattle.redl_grammar.specs.Names.{Name}
 use Rattle.redl_markup.specs.Attributes.{attributes_of}
 use Rattle.redl_markup.specs.Views.{attribute_view}
-use Rattle.redl_left.specs.Encoded.{noted-append}
+use Rattle.redl_left.proofs.NotedLaws.{noted-append}
 use Rattle.redl_left.specs.Finds.{found_among, found_name}
 use Rattle.redl_left.specs.Lines.{noted_all}
 use Rattle.redl_left.specs.Search.{table_of}

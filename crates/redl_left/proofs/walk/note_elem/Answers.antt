@@ -2,7 +2,7 @@
 use Rattle.std.proofs.Common.{ap, sym, ◌∙◌, ℕ, List}
 use Rattle.std.proofs.lemmas.Result.{on_ok_weaker}
 use Rattle.redl_tree.specs.Model.View.{tag_of, kids_of}
-use Rattle.redl_left.specs.Encoded.{noted-append}
+use Rattle.redl_left.proofs.NotedLaws.{noted-append}
 use Rattle.redl_left.specs.Finds.{found_by, found_names, kind_in}
 use Rattle.redl_left.specs.Lines.{noted_all}
 use Rattle.redl_left.specs.Search.{table_of}
