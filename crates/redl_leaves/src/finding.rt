@@ -1,6 +1,6 @@
 //! The leaf at the end of a way, and its pass.
 
-ghost use Rattle.std.specs.Prelude.{◌≡◌, ◌≤◌, ◌+◌, Some, IfOk};
+ghost use Rattle.std.specs.Prelude.{◌≡◌, ◌≤◌, ◌+◌, None, Some, IfOk, IsOk};
 ghost use Rattle.redl_leaves.specs.Finds.{found_leaf, leaf_in, size_at};
 ghost use Rattle.redl_leaves.specs.View.{states_of, view_of, container_of};
 ghost use Rattle.redl_tree.specs.Leaves.Present.{pass_leaf};
@@ -48,7 +48,7 @@ fn find_below<'s, 'a>(container: &'s Container<'a>, way: &[u32]) -> Option<&'s L
 }
 
 /// The pass of the leaf at the end of a way, under these says. It counts at most a step for each of its nodes, also with an
-/// error, and at least one for each node of the result. `Err` means out of memory.
+/// error, and at least one for each node of the result. `Err` means out of memory, and comes only where a leaf is there.
 pub fn make_leaf<'a, L: Ledger>(
     alloc: Global,
     slots: &[Slot<'a>],
@@ -60,6 +60,7 @@ pub fn make_leaf<'a, L: Ledger>(
         → nodes_of made.items ≡ pass_leaf says.now leaf) }
     ensures steps { steps.new ≤ steps.old + size_at (leaf_at way.now (slots_of (states_of slots.now))) }
     ensures counted { IfOk result (λ made. steps.old + count (nodes_of made.items) ≤ steps.new) }
+    ensures succeeds { leaf_at way.now (slots_of (states_of slots.now)) ≡ None → IsOk result }
 {
     match find_leaf(slots, way) {
         Some(leaf) => {

@@ -1,6 +1,6 @@
 //! How a story is split into leaves and containers, from the left.
 
-ghost use Rattle.std.specs.Prelude.{◌≡◌, ◌≤◌, ◌<◌, ◌^◌, ◌++◌, ◌∷◌, [], List, Option, None, Some, IfOk, OnOk, false};
+ghost use Rattle.std.specs.Prelude.{◌≡◌, ◌≤◌, ◌<◌, ◌^◌, ◌++◌, ◌∷◌, [], List, Option, None, Some, IfOk, OnOk, OnErr, IsOk, false, vec_len, vec_capacity};
 ghost use Rattle.redl_paras.specs.Pieces.{is_other};
 ghost use Rattle.redl_leaves.specs.Inside.Splits.{AddsLeaf, AddsLone, AddsView, AddsSibling, AddsSiblings, ended, chain_of, whole_of, whole, thin_siblings, item_siblings, share_at, owned_at};
 ghost use Rattle.redl_leaves.specs.Spots.{spot_of};
@@ -37,14 +37,15 @@ pub(crate) struct Splitting<'a> {
     pub tail: Vec<Node<'a>>,
 }
 
-// Adds a leaf with these nodes.
+// Adds a leaf with these nodes. `Err` means out of memory, and comes only where the list had no room.
 fn push_leaf<'a>(
     slots: &mut Vec<Slot<'a>>,
     nodes: Vec<Node<'a>>,
     among_blocks: bool,
     next: Next,
 ) -> Result<(), AllocError>
-    ensures { OnOk result (AddsLeaf among_blocks (is_other next) (nodes_of nodes.entry.items) slots.old.items slots.new.items) }
+    ensures added { OnOk result (AddsLeaf among_blocks (is_other next) (nodes_of nodes.entry.items) slots.old.items slots.new.items) }
+    ensures full { OnErr result (vec_capacity slots.old ≤ vec_len slots.old) }
 {
     let slot = Slot::Leaf(Leaf {
         original: nodes,
@@ -133,6 +134,9 @@ impl<'a> Splitting<'a> {
         ensures chain { OnOk result (self.new.chain ≡ None) }
         ensures slots { OnOk result ((rest : States) → joined_states (states_of self.new.slots.items) rest
             ≡ joined_states (states_of self.old.slots.items) (ended among_blocks (is_other next) (chain_of self.old.chain) (nodes_of self.old.tail.items) rest)) }
+
+        // Where no chain waits it takes no memory.
+        ensures succeeds { self.old.chain ≡ None → IsOk result }
     {
         match mem::replace(&mut self.chain, None) {
             None => Ok(()),

@@ -36,6 +36,6 @@ returns c = λ ancestors later.
     ap nodes_of c.in_ok-push.ensures.items ∙ nodes_of-push c.append.new.self.items c.args.node
     ∙ ap (λ ns. ns ⊕ node) (ap nodes_of c.in_ok-append.ensures.items ∙ nodes_of-append c.args.chain.items c.args.self.now.tail.items) in
     ap (λ ch. joined_states (states_of c.push_leaf.new.slots.items) (fresh_states ancestors (slots_left among (chain_of ch) (nodes_of c.append.new.other.items) later))) c.requires
-    ∙ c.in_ok-push_leaf.ensures rest
+    ∙ c.in_ok-push_leaf.ensures.added rest
     ∙ ap (λ ns. joined_states (states_of slots) (leaf_state (leaf_of among false ns) ns rest)) chain_is
     ∙ ap (λ marked. whole_of among ancestors slots (Some chain) tail (para_sibling marked node ∷ later)) (sym c.if-marked.false)
