@@ -1,6 +1,6 @@
 -- What a pass leaves of a package that was read is read again.
-use Rattle.std.proofs.Common.{◌≡◌, ◌≤◌, ◌∙◌, refl, sym, ap, subst, arith, ℕ, ◌+◌, ◌*◌, max, List, [], ◌∷◌, ◌++◌, append-nil, true}
-use Rattle.std.proofs.lemmas.Bool.{and_parts}
+use Rattle.std.proofs.Common.{◌≡◌, ◌≤◌, ◌∙◌, refl, sym, ap, subst, arith, ℕ, ◌+◌, ◌*◌, max, List, [], ◌∷◌, ◌++◌, append-nil, true, false}
+use Rattle.std.proofs.lemmas.Bool.{and_from, and_parts, both_ways}
 use Rattle.redl_grammar.specs.Characters.{IsText}
 use Rattle.redl_grammar.specs.declared.section.Section.TheVariants.{BeforeRoot, AfterRoot}
 use Rattle.redl_laws.proofs.Soundness.AllRules.{nine, numbered_sound, soundness}
@@ -20,7 +20,7 @@ use Rattle.redl_tree.specs.declared.kinds.Say.{Say}
 use Rattle.redl_tree.proofs.Decisions.StoryLaws.{unlabelled-changed}
 use Rattle.redl_tree.proofs.Revisions.LabelLaws.{text-unlabelled}
 use Rattle.redl_tree.proofs.Revisions.NumberLaws.{unlabelled-numbered, unlabelled-story}
-use Rattle.redl_xml.specs.Readings.{IsReading, IsStretchOrNone, ClosesBy}
+use Rattle.redl_xml.specs.Readings.{IsReading, HasNoReading, IsStretchOrNone, ClosesBy}
 use Rattle.redl_xml.specs.Scopes.{scope_in}
 use Rattle.redl_reread_sound.specs.Again.{again, left, IsReread}
 use Rattle.redl_reread_sound.specs.Together.{together, meet_well}
@@ -29,6 +29,7 @@ use Rattle.redl_reread_sound.proofs.AloneShape.{shape-again}
 use Rattle.redl_reread_sound.proofs.Counts.{package-few}
 use Rattle.redl_reread_sound.proofs.Depths.{package-depth}
 use Rattle.redl_reread_sound.proofs.Legal.{read-live, read-close, closes-stays, closes-ended, read-unlabelled, read-labelled, element-text, nodes-text, read-tag, none-together, legal-together}
+use Rattle.redl_reread_sound.proofs.OneText.{kids-meet}
 use Rattle.redl_reread_sound.proofs.Parts.{refusal-changed}
 use Rattle.redl_reread_sound.proofs.PassedScopes.{undeclared, stories-declare}
 use Rattle.redl_reread_sound.proofs.ReadNodes.{IsReadTag, IsReadStretch, AreRead, IsReadDocument, document-read}
@@ -79,6 +80,11 @@ module _ (before after : Nodes) (root : Tag) (is_before : IsStretchOrNone Before
   well-document kids =
       by_ends (λ x y. meet_well (document x root kids y) ≡ true → meet_well kids ≡ true)
       (λ h. (and_parts (meet_well kids) true h).0) (λ a h. (and_parts (meet_well kids) true h).0) (λ b h. (and_parts (meet_well kids) true h).0) (λ b a h. (and_parts (meet_well kids) true h).0)
+
+  meet-document : (kids : Nodes) → meet_well kids ≡ true → meet_well (document before root kids after) ≡ true
+  meet-document kids h =
+      by_ends (λ x y. meet_well (document x root kids y) ≡ true)
+      (and_from (meet_well kids) true h refl) (λ a. and_from (meet_well kids) true h refl) (λ b. and_from (meet_well kids) true h refl) (λ b a. and_from (meet_well kids) true h refl)
 
   text-document : (kids : Nodes) → text (document before root kids after) ≡ text before ++ (element_text root (text kids) ++ text after)
   text-document kids =
@@ -175,6 +181,13 @@ module _ (whole : List ℕ) (nodes : Nodes) (says : List Say) (reading : IsReadi
       is_after = it.is_after;
     };
   }
+
+  -- where it has a tree, no stretches that meet form `]]>`
+  pub unread : meet_well (left says nodes) ≡ false → HasNoReading (text (left says nodes))
+  unread badly tree reading =
+      let same : IsReading (text (document it.before it.root passed it.after)) tree = subst (λ (z : Nodes). IsReading (text z) tree) passed-is reading in
+      let well = kids-meet it.before it.root passed it.after tree it.is_before it.root_read passed-closed passed-read it.is_after same in
+      both_ways (meet_well (left says nodes)) badly (ap meet_well passed-is ∙ meet-document it.before it.after it.root it.is_before it.is_after passed well)
 
   -- the law
   pub reread : meet_well (left says nodes) ≡ true → IsReread says nodes

@@ -56,10 +56,10 @@ none-before b c more h = false_from_ne_true (forms_end b c) (λ t. both_ways (fo
 
 -- ---- runs and items
 
-abbrev Items : Type 0
+abbrev pub Items : Type 0
 Items = List (Item × List ℕ)
 
-abbrev AreItems : Items → Type 0
+abbrev pub AreItems : Items → Type 0
 AreItems more = AllByRecursion (λ i. IsItem InElement i.0 × IsRun InElement i.1) more
 
 runs-glued : (x y : List ℕ) → IsRun InElement x → IsRun InElement y → forms_end x y ≡ false → IsRun InElement (x ++ y)
@@ -101,7 +101,7 @@ glued-are i (j ∷ items) run more h r g well =
 abbrev content : {b : List ℕ} → IsStretch InElement b → List ℕ
 content h = h.first ++ items_then h.more []
 
-headless : (b : List ℕ) (h : IsStretch InElement b) → b ≡ content h
+pub headless : (b : List ℕ) (h : IsStretch InElement b) → b ≡ content h
 headless b h = h.whole ∙ ap (λ (head : Head). head_then head (h.first ++ items_then h.more [])) h.is_head
 
 filled-append : (b c : List ℕ) → (b ≢ []) → (b ++ c ≢ [])

@@ -1,5 +1,5 @@
 -- What a pass leaves of a package, as it is read again (our own rule: a second round begins with what the first one wrote).
-use Rattle.std.specs.Prelude.{◌≡◌, ◌≤◌, ◌*◌, ℕ, true, List}
+use Rattle.std.specs.Prelude.{◌≡◌, ◌≤◌, ◌*◌, ℕ, true, false, List}
 use Rattle.redl_opc.specs.Shape.{refusal}
 use Rattle.redl_reread_sound.specs.Together.{together, meet_well}
 use Rattle.redl_rules.specs.Attributes.{rules}
@@ -13,7 +13,7 @@ use Rattle.redl_tree.specs.Revisions.Labels.{unlabelled}
 use Rattle.redl_tree.specs.Revisions.Numbers.{numbered_package_by}
 use Rattle.redl_tree.specs.Rules.Sound.{is_sound}
 use Rattle.redl_tree.specs.declared.kinds.Say.{Say}
-use Rattle.redl_xml.specs.Readings.{IsReading}
+use Rattle.redl_xml.specs.Readings.{IsReading, HasNoReading}
 
 -- what a pass leaves of a package under these says
 abbrev pub left : List Say → Nodes → Nodes
@@ -38,3 +38,9 @@ abbrev pub AreReread : Type 0
 AreReread =
     (whole : List ℕ) (nodes : Nodes) (says : List Say) → IsReading whole nodes → is_sound rules nodes ≡ true
     → meet_well (left says nodes) ≡ true → IsReread says nodes
+
+-- And where some stretches that meet form `]]>`, the text of what is left has no tree: so that is exactly where it can't be read again.
+abbrev pub AreNotReread : Type 0
+AreNotReread =
+    (whole : List ℕ) (nodes : Nodes) (says : List Say) → IsReading whole nodes → is_sound rules nodes ≡ true
+    → meet_well (left says nodes) ≡ false → HasNoReading (text (left says nodes))

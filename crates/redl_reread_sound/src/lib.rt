@@ -8,5 +8,6 @@ mod laws;
 
 pub use laws::{
     ends_are_seen_where_stretches_meet, neighbours_are_one_stretch, passed_nodes_are_no_more,
-    passed_packages_keep_their_parts, passed_tags_are_scoped, what_is_left_is_read_again,
+    passed_packages_keep_their_parts, passed_tags_are_scoped, what_forms_an_end_is_not_read,
+    what_is_left_is_read_again,
 };
