@@ -1,14 +1,16 @@
 """Compares two packages by their bare texts, story with story.
 
-Headers and footers are paired as the search paired them, since parts are named anew by whoever stores a document. Notes are in the
-order of their references in both texts.
+Headers and footers are paired as the search paired them, since parts are named anew by whoever stores a document. One whose section
+went under the decisions is shown nowhere, and may be gone. Notes are in the order of their references in both texts.
 """
 from returned import bare
 from returned.differences import DOCUMENT, differences
 from returned.pairs import pair_stories
 from returned.partings import common
+from returned.reader import read
 
 KINDS = {"document": "document", "hdr": "header", "ftr": "footer"}
+HEADERS = ("header", "footer")
 NOTES = ("footnote", "endnote")
 PARAGRAPH = "*paragraph\n"
 FIELD = ("field begin", "field end")
@@ -21,7 +23,7 @@ class Comparison:
         self.program = program
         self.back = bare.stories_of(program.bare_text(back))
         self.index_of = {id(one): index for package in (first, second) for index, one in indexed(package)}
-        self.pairs = pair_stories(first, second)
+        self.first, self.pairs = first, pair_stories(first, second)
         self.extra = self.left_over(second)
 
     def left_over(self, second):
@@ -29,21 +31,26 @@ class Comparison:
         paired = {id(other) for _, other in self.pairs if other is not None}
         return [one for one in second.stories() if one.root in KINDS and id(one) not in paired]
 
-    def pairs_with(self, written):
-        """(what the pair is called, the story as it was written, the story that came back); either may be None."""
-        made = bare.stories_of(self.program.bare_text(written))
+    def pairs_with(self, made, package):
+        """(what the pair is called, the story as it was written, the story that came back); either may be None.
+
+        `made` has the stories as they were written, in the order that they have in a package.
+        """
+        places, shown = {one.name: index for index, one in indexed(package)}, package.referred()
         for one, other in self.pairs:
-            yield self.named(one), self.story(made, one), other and self.story(self.back, other)
+            if other is not None or one.root == "document" or one.name in shown:
+                yield self.named(one), made[KINDS[one.root]][places[one.name]], other and self.story(other)
         for one in self.extra:
-            yield self.named(one), None, self.story(self.back, one)
+            yield self.named(one), None, self.story(one)
         for kind in NOTES:
             mine, its = made.get(kind, []), self.back.get(kind, [])
             for place in range(max(len(mine), len(its))):
                 pair = [notes[place] if place < len(notes) else None for notes in (mine, its)]
                 yield ("%s %d" % (kind, place + 1), *pair)
 
-    def story(self, stories, stream):
-        return stories[KINDS[stream.root]][self.index_of[id(stream)]]
+    def story(self, stream):
+        """A story of what came back."""
+        return self.back[KINDS[stream.root]][self.index_of[id(stream)]]
 
     def named(self, stream):
         if stream.root == "document":
@@ -52,7 +59,12 @@ class Comparison:
 
     def unlike(self, written):
         """The pairs whose texts are not the same bytes."""
-        return [pair for pair in self.pairs_with(written) if not is_same(pair)]
+        made = bare.stories_of(self.program.bare_text(written))
+        found = [pair for pair in self.pairs_with(made, self.first) if not is_same(pair)]
+        if any(name.startswith(HEADERS) for name, _, _ in found):
+            # (a section that goes takes its references with it, and its headers come behind the others then)
+            found = [pair for pair in self.pairs_with(made, read(written)) if not is_same(pair)]
+        return found
 
 
 def is_same(pair):

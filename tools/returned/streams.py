@@ -142,14 +142,19 @@ class Package:
     def stories(self):
         return [one for one in self.streams if isinstance(one.name, str)]
 
-    def in_order(self):
-        """The stories as a bare text has them: headers and footers in the order of their references, the others behind them."""
+    def referred(self):
+        """The names of the parts to which references to headers and footers lead, each with its place among them."""
         named = {}
         for part, ident in self.header_ids:
             folder, _, file = part.rpartition("/")
             target = self.targets.get("%s/_rels/%s.rels" % (folder, file), {}).get(ident)
             if target is not None:
                 named.setdefault(led(folder, target), len(named))
+        return named
+
+    def in_order(self):
+        """The stories as a bare text has them: headers and footers in the order of their references, the others behind them."""
+        named = self.referred()
         return sorted(self.stories(), key=lambda one: named.get(one.name, len(named)))
 
     def notes(self, kind):

@@ -15,6 +15,10 @@ W = 'xmlns:w="http://schemas.openxmlformats.org/wordprocessingml/2006/main"'
 EXTENDED = "http://schemas.openxmlformats.org/officeDocument/2006/extended-properties"
 PART = '<pkg:part pkg:name="%s" pkg:contentType="x"><pkg:xmlData>%s</pkg:xmlData></pkg:part>'
 WORD = PART % ("/docProps/app.xml", '<Properties xmlns="%s"><Application>Microsoft Office Word</Application></Properties>' % EXTENDED)
+RELATIONSHIPS = "http://schemas.openxmlformats.org/package/2006/relationships"
+OFFICE = "http://schemas.openxmlformats.org/officeDocument/2006/relationships"
+RELATION = '<Relationship Id="rId%%d" Type="%s/footer" Target="footer%%d.xml"/>' % OFFICE
+SECTION = '<w:sectPr><w:footerReference w:type="default" xmlns:r="%s" r:id="rId%%d"/></w:sectPr>' % OFFICE
 COMMENT = '<w:comment w:id="%d" w:author="Eve Hall"><w:p><w:r><w:t>%s</w:t></w:r></w:p></w:comment>'
 
 
@@ -119,6 +123,25 @@ def comments(caller):
         tell("returned: " + name, got, (1, "", lines))
 
 
+def footed(body, *footers):
+    """A package of two sections, of which the second has the last of these footers, each a number and its text."""
+    parts = "".join(PART % ("/word/footer%d.xml" % number, "<w:ftr %s>%s</w:ftr>" % (W, paragraph(text(words)))) for number, words in footers)
+    relations = "".join(RELATION % (number, number) for number, _ in footers)
+    rels = PART % ("/word/_rels/document.xml.rels", '<Relationships xmlns="%s">%s</Relationships>' % (RELATIONSHIPS, relations))
+    return package(body + SECTION % footers[-1][0], rels + parts)
+
+
+def footers(caller):
+    """The footer of a section that went comes last in a bare text, and may be gone with it."""
+    properties = "<w:pPr><w:rPr>%s</w:rPr>%s</w:pPr>" % (change("ins", ""), SECTION % 1)
+    both, joined = ((1, "one"), (2, "two")), paragraph(text("ab"))
+    document = footed(paragraph(properties, text("a")) + paragraph(text("b")), *both)
+    for name, back in (("went with its section", footed(joined, both[1])), ("stays without its section", footed(joined, *both))):
+        tell("returned: a footer " + name, caller.returned(document, back), (0, "1 reject", ()))
+    got = caller.returned(document, footed(paragraph(text("a")) + paragraph(text("b")), both[1]))
+    tell("returned: a footer that went alone", got[0], 13)
+
+
 def main(docx, program):
     caller = Caller(os.path.realpath(docx), os.path.realpath(program))
     with tempfile.TemporaryDirectory() as folder:
@@ -127,6 +150,7 @@ def main(docx, program):
             got = caller.returned(package(document), package(document if back is None else back))
             tell("returned: " + title, got, (1 if lines else 0, entries, lines))
         comments(caller)
+        footers(caller)
 
 
 if __name__ == "__main__":

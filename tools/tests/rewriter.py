@@ -6,7 +6,7 @@ Each by chance, drawn from the seed: runs and texts split, neighbouring runs of 
 ids, attributes in another order, proofing marks, bookmarks and page breaks put in, neighbouring changes of one author and date
 merged or split, properties that say nothing added, empty changes dropped, dates cut to the minute, other prefixes. Notes are
 numbered and ordered as their references are, and those that nothing names are gone; headers and footers have other names and
-come in another order. A field in one element becomes one in several, and pages and times are counted anew. The part that names the
+come in another order, and those of no section are gone by chance. A field in one element becomes one in several, and pages and times are counted anew. The part that names the
 program says that Word wrote it.
 """
 import copy
@@ -321,22 +321,42 @@ class Numberer:
         holders[0].extend(found)
 
     def headers(self, name, document):
-        """Other names for the parts of headers and footers, other ids of their relationships, and another order of parts."""
+        """Other names for the parts of headers and footers, other ids of their relationships, and another order of parts.
+
+        Those that no section refers to are gone, or stay.
+        """
         folder, file = posixpath.split(name)
         relationships = self.roots.get("%s/_rels/%s.rels" % (folder, file), ())
-        news = {}
-        for one in relationships:
-            if one.get("Type", "").rpartition("/")[2] in ("header", "footer") and one.get("TargetMode") != "External":
-                part = self.parts.get(posixpath.normpath(posixpath.join(folder, one.get("Target"))))
-                if part is not None:
-                    self.rename(part, one, news, folder)
-        for one in document.iter():
-            if local_of(one) in ("headerReference", "footerReference"):
-                for space in OFFICE_RELATIONSHIPS:
-                    key = "{%s}id" % space
-                    if one.get(key) in news:
-                        one.set(key, news[one.get(key)])
+        parts, news = [(one, self.header_of(one, folder)) for one in relationships], {}
+        references = [one for one in document.iter() if local_of(one) in ("headerReference", "footerReference")]
+        keys = ["{%s}id" % space for space in OFFICE_RELATIONSHIPS]
+        referred = {one.get(key) for one in references for key in keys}
+        shown = [part for one, part in parts if one.get("Id") in referred]
+        for one, part in parts:
+            if part is None:
+                continue
+            if part not in shown and self.random.random() < 0.5:
+                self.leave_out(part, one, relationships)
+            else:
+                self.rename(part, one, news, folder)
+        for one in references:
+            for key in keys:
+                if one.get(key) in news:
+                    one.set(key, news[one.get(key)])
         self.shuffle()
+
+    def header_of(self, relationship, folder):
+        """The part of a header or footer to which a relationship leads, or None."""
+        if relationship.get("Type", "").rpartition("/")[2] not in ("header", "footer") or relationship.get("TargetMode") == "External":
+            return None
+        return self.parts.get(posixpath.normpath(posixpath.join(folder, relationship.get("Target"))))
+
+    def leave_out(self, part, relationship, relationships):
+        relationships.remove(relationship)
+        own = self.parts.get("%s/_rels/%s.rels" % posixpath.split(part.get("{%s}name" % PACKAGE)))
+        for one in (part, own):
+            if one is not None and one in list(self.package):
+                self.package.remove(one)
 
     def rename(self, part, relationship, news, folder):
         name = part.get("{%s}name" % PACKAGE)
