@@ -23,7 +23,7 @@ sys.path[:0] = [os.path.join(TOP, "tools"), os.path.join(TOP, "bench"), EXAMPLES
 sys.setrecursionlimit(100000)
 
 from packages import small_package, with_fields, with_headers, with_notes
-from returned import bare, reader
+from returned import bare, compare, reader
 from returned.check import answer_for
 from returned.program import Program
 from rewriter import rewritten
@@ -71,16 +71,23 @@ def some_words(count, draw):
 
 
 def read_the_same(program, one, other):
-    """Whether two packages have the same bare text, but for the order of two marks with one sign.
+    """Whether two packages have the same bare text, but for the order of two marks with one sign, and for headers of no section.
 
     (Such marks come in the order of the bytes of their names, and a name may be written with references or without.)
     """
     kept = []
     for data in (one, other):
-        found = bare.stories_of(program.bare_text(data)).items()
-        texts = {kind: [[marks_sorted(line) for line in story.text.split("\n")] for story in stories] for kind, stories in found}
-        kept.append(texts)
+        found, most = bare.stories_of(program.bare_text(data)), headers_shown(data)
+        texts = {kind: [[marks_sorted(line) for line in story.text.split("\n")] for story in found[kind][: most.get(kind)]] for kind in found}
+        kept.append({kind: stories for kind, stories in texts.items() if stories})
     return kept[0] == kept[1]
+
+
+def headers_shown(data):
+    """How many headers and footers some section refers to. (In a bare text the others come behind them.)"""
+    package = reader.read(data)
+    shown = package.referred()
+    return {kind: sum(1 for one in package.stories() if one.root == root and one.name in shown) for root, kind in compare.KINDS.items() if root != "document"}
 
 
 def marks_sorted(line):
@@ -88,43 +95,56 @@ def marks_sorted(line):
     return sorted(marks), rest
 
 
+def verdict(desk, words, seed):
+    """What comes of the document under these words, written anew: the verdict, and its fault or the first place that is told."""
+    decided = desk.decided(words)
+    back = rewritten(decided, seed)
+    if not read_the_same(desk.program, decided, back):
+        return "wrong", "written anew, it has another bare text"
+    answer = desk.answer(back)
+    if answer.differences:
+        return "refused", answer.differences[0].line()
+    written = desk.decided(answer.said)
+    if written == decided:
+        return "same", None
+    if desk.program.bare_text(written) == desk.program.bare_text(decided):
+        return "equal", None
+    return ("untold", None) if answer.untold() else ("wrong", "it has another bare text")
+
+
 class Pairs:
     """Counts of pairs of a document and the same document decided, written anew and found again."""
 
     def __init__(self):
-        self.same = self.equal = self.refused = 0
-        self.wrong = []
+        self.counts = dict.fromkeys(("same", "equal", "untold", "refused", "wrong"), 0)
+        self.faults = {"refused": [], "wrong": []}
 
     def count(self):
-        return self.same + self.equal + self.refused + len(self.wrong)
+        return sum(self.counts.values())
 
     def join(self, others):
-        self.same, self.equal, self.refused = self.same + others.same, self.equal + others.equal, self.refused + others.refused
-        self.wrong += others.wrong
+        for one, count in others.counts.items():
+            self.counts[one] += count
+        for one, lines in others.faults.items():
+            self.faults[one] += lines
 
-    def add(self, path, name, package, seed):
-        desk = Desk(path, package)
-        try:
-            decided = desk.decided(some_words(desk.count, random.Random(seed)))
-            back = rewritten(decided, seed)
-            if not read_the_same(desk.program, decided, back):
-                self.wrong.append("%s with seed %d, written anew, has another bare text" % (name, seed))
-            answer = desk.answer(back)
-            if answer.differences:
-                self.refused += 1
-                return
-            written = desk.decided(answer.said)
-            if written == decided:
-                self.same += 1
-            elif answer.untold() or desk.program.bare_text(written) == desk.program.bare_text(decided):
-                self.equal += 1
-            else:
-                self.wrong.append("%s with seed %d" % (name, seed))
-        finally:
-            desk.close()
+    def add(self, desk, name, words, seed):
+        said, line = verdict(desk, words, seed)
+        self.counts[said] += 1
+        if line is not None:
+            self.faults[said].append("%s with seed %d: %s" % (name, seed, line))
 
     def told(self):
-        return "%d pairs: %d the same bytes, %d the same bare text, %d refused" % (self.count(), self.same, self.equal, self.refused)
+        form = "%d pairs: %d the same bytes, %d the same bare text, %d with properties that are neither, %d refused"
+        return form % (self.count(), *(self.counts[one] for one in ("same", "equal", "untold", "refused")))
+
+
+def add_pair(pairs, path, name, package, seed):
+    desk = Desk(path, package)
+    try:
+        pairs.add(desk, name, some_words(desk.count, random.Random(seed)), seed)
+    finally:
+        desk.close()
 
 
 def pairs_of_examples(path):
@@ -132,9 +152,8 @@ def pairs_of_examples(path):
     for name in sorted(os.listdir(EXAMPLES)):
         if name.endswith(".xml") and name not in ("unsound.xml", "contract.back.xml"):
             for seed in range(3):
-                pairs.add(path, name, file_of(name), seed)
-    fault = "refused or wrong: " + pairs.told() if pairs.refused or pairs.wrong else None
-    tell("examples, " + pairs.told(), fault)
+                add_pair(pairs, path, name, file_of(name), seed)
+    tell("examples, " + pairs.told(), "; ".join(pairs.faults["refused"] + pairs.faults["wrong"]))
 
 
 def random_package(number):
@@ -147,7 +166,7 @@ def pairs_by_number(path, numbers, end):
     """The pairs of the packages with these numbers, until the time is over."""
     pairs = Pairs()
     for number in itertools.takewhile(lambda _: time.monotonic() < end, numbers):
-        pairs.add(path, "package %d" % number, random_package(number), number)
+        add_pair(pairs, path, "package %d" % number, random_package(number), number)
     return pairs
 
 
@@ -158,8 +177,8 @@ def pairs_by_chance(path, seconds, most, first):
     with ProcessPoolExecutor(beside) as pool:
         for share in pool.map(pairs_by_number, itertools.repeat(path), shares, itertools.repeat(end)):
             pairs.join(share)
-    tell("random packages give no other text", "; ".join(pairs.wrong[:5]))
-    few = pairs.refused * 1000 < REFUSED * max(pairs.count(), 400)
+    tell("random packages give no other text", "; ".join(pairs.faults["wrong"][:5]))
+    few = pairs.counts["refused"] * 1000 < REFUSED * max(pairs.count(), 400)
     tell("random packages, " + pairs.told(), None if few else "more than %d of 1,000 are refused" % REFUSED)
 
 
@@ -180,17 +199,30 @@ def texts_of(data):
     return [found.span(1) for found in re.finditer(rb"<w:t(?: [^>]*)?>([^<]*\w\w[^<]*)</w:t>", data)]
 
 
+def with_word(back, draw):
+    """What came back with a word put into a text without a mark, or None where there is no text."""
+    ends = [end for _, end in texts_of(back)]
+    end = draw.choice(ends) if ends else None
+    return None if end is None else back[:end] + b" zebra" + back[end:]
+
+
 def untracked_edits(path):
     """A word put into a text by hand is refused, with its place."""
     for seed in range(12):
         desk, _, back = contract(path, seed)
-        begin, end = random.Random(seed).choice(texts_of(back))
-        edited = back[:end] + b" zebra" + back[end:]
-        lines = [one.line() for one in desk.answer(edited).differences]
+        lines = [one.line() for one in desk.answer(with_word(back, random.Random(seed))).differences]
         if len(lines) != 1 or "zebra" not in lines[0].split(" where the decisions give ")[0]:
-            return tell("an untracked edit", "seed %d, after %r: %s" % (seed, back[begin:end], lines))
+            return tell("an untracked edit", "seed %d: %s" % (seed, lines))
         desk.close()
     tell("an untracked edit is refused with its place, 12 times")
+
+
+def with_insertion(back, draw):
+    """What came back with a word that Eve inserted with a mark at a paragraph's end, or None where it has no place."""
+    ends = [found.end() for found in re.finditer(rb"</w:r>(?=</w:p>)", back) if is_plain(back, found.end())]
+    end = draw.choice(ends) if ends else None
+    added = b"<w:ins w:id='9001' %s><w:r><w:t>zebra</w:t></w:r></w:ins>" % EVE
+    return None if end is None else back[:end] + added + back[end:]
 
 
 def tracked_edits(path):
@@ -198,10 +230,7 @@ def tracked_edits(path):
     for seed in range(6):
         desk, words, back = contract(path, seed)
         wanted = desk.answer(back).said
-        draw = random.Random(seed)
-        end = draw.choice([found.end() for found in re.finditer(rb"</w:r>(?=</w:p>)", back) if is_plain(back, found.end())])
-        added = b"<w:ins w:id='9001' %s><w:r><w:t>zebra</w:t></w:r></w:ins>" % EVE
-        answer = desk.answer(back[:end] + added + back[end:])
+        answer = desk.answer(with_insertion(back, random.Random(seed)))
         lines = [one.line() for one in answer.proposals]
         if answer.differences or answer.said != wanted:
             return tell("a tracked edit", "seed %d: other decisions: %s" % (seed, [one.line() for one in answer.differences]))
@@ -216,27 +245,39 @@ def is_plain(data, place):
     return b"fld" not in data[data.rfind(b"<w:p>", 0, place) : place]
 
 
+def with_deletion(back, words):
+    """What came back with the first run without properties that has these words deleted by Eve with a mark, or None."""
+    found = re.search(rb"<w:r(?: [^>]*)?><w:t(?: [^>]*)?>([^<]*%s[^<]*)</w:t></w:r>" % words, back)
+    if found is None:
+        return None
+    run = found.group().replace(b"<w:t", b"<w:delText").replace(b"</w:t>", b"</w:delText>")
+    return back[: found.start()] + b"<w:del w:id='9002' %s>" % EVE + run + b"</w:del>" + back[found.end() :]
+
+
 def deleted_by_reviewer(path):
     """A text that is deleted with a mark is listed as such, and its words are kept."""
     desk, _, back = contract(path, 2)
-    found = re.search(rb"<w:r(?: [^>]*)?><w:t(?: [^>]*)?>([^<]*Signed[^<]*)</w:t></w:r>", back) or re.search(
-        rb"<w:r(?: [^>]*)?><w:t(?: [^>]*)?>([^<]*\w\w[^<]*)</w:t></w:r>", back
-    )
-    run = found.group().replace(b"<w:t", b"<w:delText").replace(b"</w:t>", b"</w:delText>")
-    answer = desk.answer(back[: found.start()] + b"<w:del w:id='9002' %s>" % EVE + run + b"</w:del>" + back[found.end() :])
+    answer = desk.answer(with_deletion(back, rb"\w\w"))
     lines = [one.line() for one in answer.proposals]
     fault = None if len(lines) == 1 and "deleted by Eve Hall" in lines[0] and not answer.differences else "%s" % lines
     tell("a tracked deletion is listed", fault)
     desk.close()
 
 
+def with_half(back):
+    """What came back with the first letters of an insertion accepted by themselves, or None where there is no such insertion."""
+    run = rb"<w:r(?: [^>]*)?>(?:<w:rPr>(?:(?!</?w:rPr).)*</w:rPr>)?<w:t(?: [^>]*)?>"
+    found = re.search(rb"(<w:ins [^>]*>)(%s)(\w{4}[^<]{5,})(</w:t></w:r>)" % run, back)
+    if found is None:
+        return None
+    change, run, text, end = found.groups()
+    return back[: found.start()] + run + text[:4] + end + change + run + text[4:] + end + back[found.end() :]
+
+
 def half_decisions(path):
     """A part of an insertion that was accepted by itself is no decision, and its place is told."""
     desk, _, back = contract(path, 3, {})
-    found = re.search(rb"(<w:ins [^>]*>)(<w:r(?: [^>]*)?>(?:<w:rPr>.*?</w:rPr>)?<w:t(?: [^>]*)?>)(\w[^<]{8,})(</w:t></w:r>)", back)
-    whole = found.group(3)
-    half = found.group(2) + whole[:4] + found.group(4) + found.group(1) + found.group(2) + whole[4:] + found.group(4)
-    lines = [one.line() for one in desk.answer(back[: found.start()] + half + back[found.end() :]).differences]
+    lines = [one.line() for one in desk.answer(with_half(back)).differences]
     fault = None if len(lines) == 1 and "{+" in lines[0] and ", paragraph " in lines[0] else "%s" % lines
     tell("half a decision is refused with its place", fault)
     desk.close()

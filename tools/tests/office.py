@@ -1,11 +1,12 @@
 #!/usr/bin/env python3
-"""Decides changes of a .docx in LibreOffice, as a reviewer does there, and stores each result.
+"""Decides changes of .docx in LibreOffice, as a reviewer does there, and stores each result.
 
-    office.py FOLDER IN.docx PLAN ..
+    office.py FOLDER IN.docx PLAN .. [IN.docx PLAN ..] ..
 
 PLAN is OUT=WORD:CHOICE, with the words accept and reject and the choices none, all, author:NAME and number:N (LibreOffice's own
-count of its changes, from 1). Each result is FOLDER/OUT.docx. Needs soffice and the module uno; the profile is a folder of its own
-in FOLDER. On standard output it says for each result how many changes LibreOffice had before and after.
+count of its changes, from 1, which begins again where there are fewer). Each result is FOLDER/OUT.docx. Needs soffice and the module
+uno; the profile is a folder of its own in FOLDER. On standard output it says for each result how many changes LibreOffice had before
+and after. The status is 1 where a result was not stored.
 """
 import os
 import subprocess
@@ -16,6 +17,7 @@ import uno
 from com.sun.star.beans import PropertyValue
 from com.sun.star.connection import NoConnectException
 from com.sun.star.lang import DisposedException
+from com.sun.star.uno import Exception as Refusal
 
 FILTER = "MS Word 2007 XML"
 
@@ -28,8 +30,12 @@ def value(name, what):
 
 class Office:
     def __init__(self, folder):
+        self.folder = folder
+        self.start()
+
+    def start(self):
         pipe = "redline%d" % os.getpid()
-        profile = "-env:UserInstallation=file://" + os.path.abspath(os.path.join(folder, "profile"))
+        profile = "-env:UserInstallation=file://" + os.path.abspath(os.path.join(self.folder, "profile"))
         words = ["soffice", profile, "--headless", "--norestore", "--nologo", "--accept=pipe,name=%s;urp" % pipe]
         self.process = subprocess.Popen(words, stdin=subprocess.DEVNULL, stdout=subprocess.DEVNULL, stderr=subprocess.DEVNULL)
         local = uno.getComponentContext()
@@ -79,7 +85,9 @@ def decide(office, document, word, choice):
     if choice == "all":
         office.say(document, {"accept": "AcceptAllTrackedChanges", "reject": "RejectAllTrackedChanges"}[word])
     elif choice.startswith("number:"):
-        decide_one(office, document, changes_of(document)[int(choice[7:]) - 1], word)
+        changes = changes_of(document)
+        if changes:
+            decide_one(office, document, changes[(int(choice[7:]) - 1) % len(changes)], word)
     elif choice.startswith("author:"):
         passed = 0
         while True:
@@ -91,10 +99,12 @@ def decide(office, document, word, choice):
 
 
 def carry_out(office, folder, source, plan):
-    """Decides and stores one document, and tells what was done."""
+    """Decides and stores one document, and tells what was done: whether it is stored."""
     out, _, what = plan.partition("=")
     word, _, choice = what.partition(":")
     document = office.open(source)
+    if document is None:
+        return False
     before = len(changes_of(document))
     decide(office, document, word, choice)
     after = len(changes_of(document))
@@ -102,21 +112,35 @@ def carry_out(office, folder, source, plan):
     document.storeToURL("file://" + path, (value("FilterName", FILTER),))
     document.close(True)
     print("%s\t%s\t%d\t%d" % (out, what, before, after), flush=True)
+    return True
 
 
-def main(folder, source, *plans):
-    office = Office(folder)
+def is_stored(office, folder, source, plan):
+    """Whether a document is stored. (LibreOffice goes down at times: then once more with a new one.)"""
+    for _ in range(2):
+        try:
+            return carry_out(office, folder, source, plan)
+        except DisposedException:
+            office.close()
+            office.start()
+        except Refusal as error:
+            print("%s\t%s" % (plan, error), flush=True)
+            return False
+    return False
+
+
+def main(folder, *words):
+    office, source, status = Office(folder), None, 0
     try:
-        for plan in plans:
-            try:
-                carry_out(office, folder, source, plan)
-            except DisposedException:  # (it went down, as it does at times: once more with a new one)
-                office.close()
-                office = Office(folder)
-                carry_out(office, folder, source, plan)
+        for word in words:
+            if word.endswith(".docx"):
+                source = word
+            elif not is_stored(office, folder, source, word):
+                status = 1
     finally:
         office.close()
+    return status
 
 
 if __name__ == "__main__":
-    main(*sys.argv[1:])
+    sys.exit(main(*sys.argv[1:]))
