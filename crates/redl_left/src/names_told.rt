@@ -5,7 +5,7 @@ ghost use Rattle.redl_markup.specs.Decoding.{decoded_value, is_literal};
 ghost use Rattle.redl_markup.specs.Views.{attribute_view};
 ghost use Rattle.redl_shown.specs.Shown.{shown};
 ghost use Rattle.redl_left.specs.Finds.{found_among, found_name, found_names, found_text, found_told, is_author};
-ghost use Rattle.redl_left.specs.Fronts.{BeginsNone, QuotesNone};
+ghost use Rattle.redl_left.specs.Fronts.{back, BeginsNone, NamesAuthor, Passes, QuotesPass};
 ghost use Rattle.redl_left.specs.Lines.{noted_all};
 ghost use Rattle.redl_left.specs.Search.{table_of};
 ghost use Rattle.redl_left.specs.Seen.{tables_of};
@@ -118,16 +118,30 @@ fn begins_none(search: &Search<'_>, bytes: &[u8]) -> bool
     }
 }
 
-// The same of all values of a tail that has no `'`, by the bytes after each `"`.
-fn quotes_none(search: &Search<'_>, tail: &[u8]) -> bool
-    ensures { IsTrue result → QuotesNone (table_of search.now) tail.now }
+// Whether bytes before a quote end as an `author` with a prefix and its `=`.
+fn names_author(front: &[u8]) -> bool
+    ensures { IsTrue result → (before : List ℕ) → NamesAuthor (back front.now before) }
 {
-    let mut left = far_until(tail, b'"').1;
+    front.ends_with(b":author=")
+}
+
+// Whether it is plain that an author is named after a quote at most by an `author`, between these bytes.
+fn passes(search: &Search<'_>, front: &[u8], rest: &[u8]) -> bool
+    ensures { IsTrue result → (before : List ℕ) → Passes (table_of search.now) (back front.now before) rest.now }
+{
+    begins_none(search, rest) || names_author(front)
+}
+
+// The same of all values of a tail that has no `'`, by the bytes round each `"`.
+fn quotes_pass(search: &Search<'_>, tail: &[u8]) -> bool
+    ensures { IsTrue result → QuotesPass (table_of search.now) [] tail.now }
+{
+    let (mut front, mut left) = far_until(tail, b'"');
     while let Some((_, rest)) = left.split_first() {
-        if !begins_none(search, rest) {
+        if !passes(search, front, rest) {
             return false;
         }
-        left = far_until(rest, b'"').1;
+        (front, left) = far_until(rest, b'"');
     }
     true
 }
@@ -139,7 +153,7 @@ fn names_none(search: &Search<'_>, tail: &[u8]) -> bool
     if tail.is_empty() {
         return true;
     }
-    far_until(tail, b'\'').1.is_empty() && quotes_none(search, tail)
+    far_until(tail, b'\'').1.is_empty() && quotes_pass(search, tail)
 }
 
 // Notes a decoded value if it is the name of an author. `Err` means out of memory.

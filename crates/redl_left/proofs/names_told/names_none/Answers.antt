@@ -13,4 +13,4 @@ pub returns-then-is_empty-2 : goal.returns-then-is_empty-2
 returns-then-is_empty-2 c = λ quotes. λ part.
     names_none (table_of c.args.search.now) c.args.tail.now
     (sym c.far_until.ensures.rest ∙ nil_by_length c.far_until.result.1.now (sym c.is_empty-2.ensures ∙ c.if-is_empty-2.true))
-    (c.quotes_none.ensures quotes) part
+    (c.quotes_pass.ensures quotes) part
