@@ -4,3 +4,4 @@ pub mod ViewLaws
 pub mod PackageLaws
 pub mod IdleLaws
 pub mod WalkLaws
+pub mod WayLaws

@@ -3,3 +3,4 @@ pub mod Idle
 pub mod Ends
 pub mod Views
 pub mod Walks
+pub mod Ways

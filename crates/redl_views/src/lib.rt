@@ -6,10 +6,12 @@
 #![tactic(auto)]
 
 mod idle;
+mod known;
 mod next;
 mod package;
 mod summary;
 mod walk;
+mod ways;
 
 pub use idle::put_idle_start;
 pub use package::view;

@@ -13,6 +13,7 @@ ghost use Rattle.redl_views.specs.PlainText.{plain_text};
 ghost use Rattle.redl_shown.specs.Shown.{shown};
 ghost use Rattle.redl_views.specs.Walks.{story_walk, walk_text};
 
+use crate::known::Known;
 use crate::summary::in_root;
 use crate::walk::view_nodes;
 use redl_io::{Failed, Sink};
@@ -54,7 +55,13 @@ fn view_story<K: Sink>(root: &Elem, says: &[Say], out: &mut K) -> Result<(), Fai
     ensures { Puts K.told K.faults K.settled K.lenders out.old out.new (story_walk says.now (element_of root.now)) result }
 {
     if is_word(root, Word::Document) {
-        view_nodes(root.kids(), says, in_root(says, root), out)?;
+        view_nodes(
+            root.kids(),
+            says,
+            in_root(says, root),
+            Known::nothing(),
+            out,
+        )?;
     }
     Ok(())
 }

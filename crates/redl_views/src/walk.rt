@@ -16,15 +16,30 @@ ghost use Rattle.redl_tree.specs.Model.View.{nodes_of, item_of, tag_of, kids_of}
 ghost use Rattle.redl_views.specs.Idle.{idle_shown};
 ghost use Rattle.redl_views.specs.PlainText.{start_shown as start_shown_by, end_shown as end_shown_by};
 ghost use Rattle.redl_shown.specs.Shown.{shown};
+ghost use Rattle.redl_views.specs.Ways.{Holds, HoldsIn};
 ghost use Rattle.redl_views.specs.Walks.{view, gives, item_view, item_gives, item_taken, elem_view, summary_inside, one_gives as one_gives_by, taken_after as taken_after_by, loses_end as loses_end_by, is_lost as is_lost_by, is_walked as is_walked_by};
 
 use crate::idle::put_idle;
+use crate::known::{Known, asked_of_shell, goes_by};
 use crate::next::{Next, next_of};
 use crate::summary::{ViewSummary, inside, is_cut_para};
+use crate::ways::find_way;
 use redl_io::{Failed, Sink, put_piece};
 use redl_shown::put_shown;
-use redl_tables::{fate_of, goes_at};
+use redl_tables::{fate_of, goes_at, is_shell};
 use redl_tree::{Elem, Fate, Node, Plain, Say, Word, is_named, is_quiet, is_thick, is_word};
+
+// How many levels of shells a search notes on its way. Where more are in one another, what is further in is searched again.
+const LEVELS: usize = 64;
+
+/// What the list tells a node.
+#[derive(Clone, Copy)]
+pub(crate) struct Given<'a> {
+    /// What the node takes up.
+    pub taken: Option<bool>,
+    /// What is known of what the node holds.
+    pub known: Known<'a>,
+}
 
 /// What the walk of a node tells the list: whether it gives an element, and what the next paragraph takes up.
 #[derive(Clone, Copy)]
@@ -41,17 +56,26 @@ pub(crate) fn view_nodes<K: Sink>(
     nodes: &[Node],
     says: &[Say],
     above: ViewSummary,
+    known: Known<'_>,
     out: &mut K,
 ) -> Result<bool, Failed>
+    requires { Holds says.now known (nodes_of nodes.now) }
     ensures puts { Puts K.told K.faults K.settled K.lenders out.old out.new (view says.now above None (nodes_of nodes.now)) result }
     ensures gives { IfOk result (λ answer. answer ≡ gives says.now above (nodes_of nodes.now)) }
 {
     let mut gives = false;
     let mut taken = None;
+    let mut passed = 0;
     for i in 0..nodes.len() {
-        let step = view_node(&nodes[i], &nodes[i + 1..], says, above, taken, out)?;
+        let node = &nodes[i];
+        let given = Given {
+            taken,
+            known: known.below(node, passed),
+        };
+        let step = view_node(node, &nodes[i + 1..], says, above, given, out)?;
         gives = either(gives, step.gives);
         taken = step.taken;
+        passed = known.passed_after(node, passed);
     }
     Ok(gives)
 }
@@ -68,17 +92,18 @@ fn view_node<K: Sink>(
     rest: &[Node],
     says: &[Say],
     above: ViewSummary,
-    taken: Option<bool>,
+    given: Given<'_>,
     out: &mut K,
 ) -> Result<Step, Failed>
-    ensures puts { Puts K.told K.faults K.settled K.lenders out.old out.new (item_view says.now above taken (item_of node.now) (nodes_of rest.now)) result }
+    requires { HoldsIn says.now given.known (item_of node.now) }
+    ensures puts { Puts K.told K.faults K.settled K.lenders out.old out.new (item_view says.now above given.entry.taken (item_of node.now) (nodes_of rest.now)) result }
     ensures gives { IfOk result (λ step. step.gives ≡ item_gives says.now above (item_of node.now)) }
-    ensures taken { IfOk result (λ step. step.taken ≡ item_taken says.now above taken (item_of node.now) (nodes_of rest.now)) }
+    ensures taken { IfOk result (λ step. step.taken ≡ item_taken says.now above given.entry.taken (item_of node.now) (nodes_of rest.now)) }
 {
     match node {
-        Node::Elem(elem) => view_elem(elem, rest, says, above, taken, out),
-        Node::Bytes(text) => view_bytes(text, above, taken, out),
-        Node::Plain(plain) => view_plain(plain, above, taken, out),
+        Node::Elem(elem) => view_elem(elem, rest, says, above, given, out),
+        Node::Bytes(text) => view_bytes(text, above, given.taken, out),
+        Node::Plain(plain) => view_plain(plain, above, given.taken, out),
     }
 }
 
@@ -124,26 +149,82 @@ fn view_elem<K: Sink>(
     rest: &[Node],
     says: &[Say],
     above: ViewSummary,
+    given: Given<'_>,
+    out: &mut K,
+) -> Result<Step, Failed>
+    requires { Holds says.now given.known (kids_of elem.now) }
+    ensures puts { Puts K.told K.faults K.settled K.lenders out.old out.new
+        (elem_view says.now above (tag_of elem.now) (kids_of elem.now) (view says.now (summary_inside says.now (tag_of elem.now) above) None (kids_of elem.now))
+        (loses_end_by says.now above given.entry.taken (tag_of elem.now) (kids_of elem.now) (nodes_of rest.now) (gives says.now (summary_inside says.now (tag_of elem.now) above) (kids_of elem.now)))) result }
+    ensures gives { IfOk result (λ step. step.gives ≡ one_gives_by says.now above (tag_of elem.now) (kids_of elem.now) (gives says.now (summary_inside says.now (tag_of elem.now) above) (kids_of elem.now))) }
+    ensures taken { IfOk result (λ step. step.taken ≡ taken_after_by says.now above given.entry.taken (tag_of elem.now) (kids_of elem.now) (nodes_of rest.now) (gives says.now (summary_inside says.now (tag_of elem.now) above) (kids_of elem.now))) }
+{
+    if is_freed(says, elem) {
+        let below = inside(says, elem, above);
+        let full = view_nodes(elem.kids(), says, below, Known::nothing(), out)?;
+        return Ok(answer(elem, rest, says, above, given.taken, full));
+    }
+    if given.known.found.is_none() && is_shell(elem, above.ancestors.site.place) {
+        return view_shell(elem, rest, says, above, given.taken, out);
+    }
+    view_known(elem, rest, says, above, given, out)
+}
+
+// The same of a shell of which nothing is known: whether it goes is found once for all shells in it that are on the way.
+#[cycle(view)]
+fn view_shell<K: Sink>(
+    elem: &Elem,
+    rest: &[Node],
+    says: &[Say],
+    above: ViewSummary,
     taken: Option<bool>,
     out: &mut K,
 ) -> Result<Step, Failed>
+    requires { is_freed_by says.now (tag_of elem.now) ≡ false }
     ensures puts { Puts K.told K.faults K.settled K.lenders out.old out.new
         (elem_view says.now above (tag_of elem.now) (kids_of elem.now) (view says.now (summary_inside says.now (tag_of elem.now) above) None (kids_of elem.now))
         (loses_end_by says.now above taken (tag_of elem.now) (kids_of elem.now) (nodes_of rest.now) (gives says.now (summary_inside says.now (tag_of elem.now) above) (kids_of elem.now)))) result }
     ensures gives { IfOk result (λ step. step.gives ≡ one_gives_by says.now above (tag_of elem.now) (kids_of elem.now) (gives says.now (summary_inside says.now (tag_of elem.now) above) (kids_of elem.now))) }
     ensures taken { IfOk result (λ step. step.taken ≡ taken_after_by says.now above taken (tag_of elem.now) (kids_of elem.now) (nodes_of rest.now) (gives says.now (summary_inside says.now (tag_of elem.now) above) (kids_of elem.now))) }
 {
-    if is_freed(says, elem) {
-        let full = view_nodes(elem.kids(), says, inside(says, elem, above), out)?;
-        return Ok(answer(elem, rest, says, above, taken, full));
-    }
-    if !is_walked(says, elem, above) {
-        return Ok(answer(elem, rest, says, above, taken, false));
+    let mut way = [0; LEVELS];
+    let asked = asked_of_shell(elem, above.ancestors.site.place);
+    let found = find_way(elem.kids(), asked, says, &mut way, 0);
+    let known = Known {
+        asked,
+        found: Some(found),
+        way: &way,
+    };
+    view_known(elem, rest, says, above, Given { taken, known }, out)
+}
+
+// The same of an element that isn't freed, by what is known of what it holds.
+#[cycle(view)]
+fn view_known<K: Sink>(
+    elem: &Elem,
+    rest: &[Node],
+    says: &[Say],
+    above: ViewSummary,
+    given: Given<'_>,
+    out: &mut K,
+) -> Result<Step, Failed>
+    requires known { Holds says.now given.known (kids_of elem.now) }
+    requires freed { is_freed_by says.now (tag_of elem.now) ≡ false }
+    ensures puts { Puts K.told K.faults K.settled K.lenders out.old out.new
+        (elem_view says.now above (tag_of elem.now) (kids_of elem.now) (view says.now (summary_inside says.now (tag_of elem.now) above) None (kids_of elem.now))
+        (loses_end_by says.now above given.entry.taken (tag_of elem.now) (kids_of elem.now) (nodes_of rest.now) (gives says.now (summary_inside says.now (tag_of elem.now) above) (kids_of elem.now)))) result }
+    ensures gives { IfOk result (λ step. step.gives ≡ one_gives_by says.now above (tag_of elem.now) (kids_of elem.now) (gives says.now (summary_inside says.now (tag_of elem.now) above) (kids_of elem.now))) }
+    ensures taken { IfOk result (λ step. step.taken ≡ taken_after_by says.now above given.entry.taken (tag_of elem.now) (kids_of elem.now) (nodes_of rest.now) (gives says.now (summary_inside says.now (tag_of elem.now) above) (kids_of elem.now))) }
+{
+    if !is_walked(says, elem, above, given.known) {
+        return Ok(answer(elem, rest, says, above, given.taken, false));
     }
     put_start(elem, out)?;
-    let full = view_nodes(elem.kids(), says, inside(says, elem, above), out)?;
-    put_end(elem, loses_end(elem, rest, says, above, taken, full), out)?;
-    Ok(answer_of_walked(elem, rest, says, above, taken, full))
+    let below = inside(says, elem, above);
+    let full = view_nodes(elem.kids(), says, below, given.known, out)?;
+    let loses = loses_end(elem, rest, says, above, given.taken, full);
+    put_end(elem, loses, out)?;
+    Ok(answer_of_walked(elem, rest, says, above, given.taken, full))
 }
 
 // Whether an element is content whose kids take its place.
@@ -154,12 +235,13 @@ fn is_freed(says: &[Say], elem: &Elem) -> bool
 }
 
 // Whether an element stays and may show something: it holds no properties, and is no table, row, cell or shell that goes.
-fn is_walked(says: &[Say], elem: &Elem, above: ViewSummary) -> bool
+fn is_walked(says: &[Say], elem: &Elem, above: ViewSummary, known: Known<'_>) -> bool
+    requires { Holds says.now known (kids_of elem.now) }
     ensures { result ≡ is_walked_by says.now above (tag_of elem.now) (kids_of elem.now) }
 {
     fate_of(says, elem) == Fate::Leave
         && !is_quiet(elem)
-        && !goes_at(elem, above.ancestors.site.place, says)
+        && !goes_by(elem, above.ancestors.site.place, says, known)
 }
 
 // What an element tells its list, whose kids give an element or not.
