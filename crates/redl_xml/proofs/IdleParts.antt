@@ -1,5 +1,5 @@
 -- What was passed over, as the slice that it is: its nodes are idle, and of this number.
-use Rattle.std.proofs.Common.{◌≡◌, ◌≢◌, ◌≤◌, ◌<◌, ◌-◌, refl, [], ◌∷◌, ℕ, Bool, true, false, List, ◌++◌, take, length, Some, sym, ap, subst, ◌∙◌, arith, length-append}
+use Rattle.std.proofs.Common.{◌≡◌, ◌≢◌, ◌≤◌, ◌<◌, ◌-◌, ◌+◌, refl, [], ◌∷◌, ℕ, Bool, true, false, List, ◌++◌, take, length, Some, sym, ap, subst, ◌∙◌, arith, length-append}
 use Rattle.std.proofs.Math.Seq.{take-append_seam}
 use Rattle.redl_tree.specs.Model.Nodes.{Nodes, no_nodes, bytes, element}
 use Rattle.redl_tree.specs.Model.Count.{count}
@@ -21,8 +21,9 @@ use Rattle.redl_markup.specs.declared.name.Name as code
 use Rattle.redl_grammar.specs.declared.section.Section.TheVariants.{InElement}
 use Rattle.redl_grammar.specs.Pieces.{Piece}
 use Rattle.redl_grammar.specs.ScanPieces.{piece_at}
-use Rattle.redl_xml.specs.Inside.Passing.{HoldsIn, ArePlainIn, IsIdleIn, IsPassed, IsIdleText, PassesPiece, is_run_open, names_view}
-use Rattle.redl_xml.proofs.FoldLoop.{IsTurn}
+use Rattle.redl_xml.specs.declared.idle.Idle.{Idle}
+use Rattle.redl_xml.specs.Inside.Passing.{HoldsIn, ArePlainIn, IsIdleIn, IsPassed, IsIdleText, PassesPiece, PassesOn, piece_count, piece_elements, is_run_open, names_view}
+use Rattle.redl_xml.proofs.FoldLoop.{IsTurn, IsPassing, passing_turns}
 
 plain_in : (scope : Scope) (in_run : Bool) (nodes : Nodes) → AllTags (IsIdleIn scope) in_run nodes → ArePlainIn scope W nodes
 plain_in scope in_run no_nodes h = tt
@@ -112,3 +113,12 @@ pub idle_turn : (scope now : Scope) (rest behind : List ℕ) (ns ns' : List code
 idle_turn scope now rest behind ns ns' p same read passes =
     let Q : Scope → Type 0 = λ s. HoldsIn (IsIdleIn s) (is_run_open W (names_view ns)) W p in
     record { read = read; taken = passes.taken; holds = subst Q same passes.holds }
+
+-- a turn of the loop, with what was passed over before and with it
+pub passing_on : (scope now : Scope) (bs rest behind : List ℕ) (before after : List code.Name) (p : Piece) (old more : Idle) → now ≡ scope → IsPassing (IsIdleIn scope) W bs rest (names_view before) old.nodes old.elems old.deepest → piece_at InElement rest ≡ Some (p, behind) → PassesOn now before after p old more → IsPassing (IsIdleIn scope) W bs behind (names_view after) more.nodes more.elems more.deepest
+passing_on scope now bs rest behind before after p old more same g read on =
+    let turn = idle_turn scope now rest behind before after p same read on.passes in
+    let turned = passing_turns (IsIdleIn scope) W bs rest behind before after old.nodes (piece_count p) old.elems (piece_elements p) old.deepest more.deepest (length before) p g turn refl refl refl on.deep in
+    let P : ℕ → Type 0 = λ n. IsPassing (IsIdleIn scope) W bs behind (names_view after) n (old.elems + piece_elements p) more.deepest in
+    let Q : ℕ → Type 0 = λ n. IsPassing (IsIdleIn scope) W bs behind (names_view after) more.nodes n more.deepest in
+    subst Q (sym on.elems) (subst P (sym on.nodes) turned)

@@ -1,14 +1,13 @@
 //! Elements that are passed over as they stand.
 
-ghost use Rattle.std.specs.Prelude.{◌≡◌, ◌==◌, length, true, false, option_map, IfOk, IfSome, IsNone, Some, if◌then◌else◌};
+ghost use Rattle.std.specs.Prelude.{◌≡◌, ◌<◌, ◌+◌, ◌==◌, max, length, true, false, option_map, IfOk, IfSome, IsNone, Some, if◌then◌else◌};
 ghost use Rattle.redl_grammar.specs.declared.section.Section.TheVariants.{InElement};
 ghost use Rattle.redl_grammar.specs.ScanPieces.{piece_at};
 ghost use Rattle.redl_tree.specs.declared.kinds.Space.TheVariants.{W};
 ghost use Rattle.redl_tree.specs.Model.Folds.{nodes_in};
 ghost use Rattle.redl_markup.specs.PieceViews.{piece_view};
-ghost use Rattle.redl_xml.specs.Inside.Sizes.{deepest_with};
 ghost use Rattle.redl_xml.specs.Scopes.{Scope};
-ghost use Rattle.redl_xml.specs.Inside.Passing.{HoldsOf, HoldsIn, IsPlainIn, IsIdleIn, IsPassed, IsIdleText, PassesPiece, ClosesLast, piece_count, piece_elements, is_run_open, put_name, names_view, rest_behind};
+ghost use Rattle.redl_xml.specs.Inside.Passing.{HoldsOf, IsPlainIn, IsIdleIn, IsPassed, IsIdleText, PassesOn, ClosesLast, is_run_open, names_view, rest_behind};
 
 use crate::closing::behind_end;
 use crate::letters::pass_bare;
@@ -92,19 +91,6 @@ fn is_idle_start<'a>(scopes: &mut Spaces<'a>, in_run: bool, tag: &StartTag<'a>) 
     is_idle_name(tag.name().local, in_run) && is_plain_start(scopes, Space::W, tag)
 }
 
-// Whether a piece may be passed over.
-fn may_pass<'a>(scopes: &mut Spaces<'a>, in_run: bool, piece: &Piece<'a>) -> bool
-    ensures idle { result ≡ true → HoldsIn (IsIdleIn scopes.old) in_run W (piece_view piece.now) }
-    ensures same { scopes.new ≡ scopes.old }
-{
-    match piece {
-        Piece::Start(tag) => is_idle_start(scopes, in_run, tag),
-        Piece::Empty(tag) => is_idle_start(scopes, in_run, tag),
-        Piece::Stretch(_) => true,
-        Piece::End(_, _) => true,
-    }
-}
-
 // Takes the innermost open element's end tag, if the bytes begin with that and there is no white space in it. Gives the bytes behind.
 #[inline(always)]
 fn close_last<'a>(names: &mut Vec<Name<'a>>, bytes: &'a [u8]) -> Option<&'a [u8]>
@@ -127,64 +113,64 @@ fn is_run_open(names: &[Name<'_>]) -> bool
     }
 }
 
-// Takes a piece to the open elements, if it belongs there.
-fn take_name<'a>(names: &mut Vec<Name<'a>>, piece: &Piece<'a>) -> Result<bool, AllocError>
-    ensures { IfOk result (λ taken. taken ≡ true → put_name (piece_view piece.now) (names_view names.old.items) ≡ Some (names_view names.new.items)) }
+// What was passed over with one more element, which is at this depth.
+#[inline(always)]
+fn with_element<'a>(now: Idle<'a>, rest: &'a [u8], depth: usize) -> Idle<'a>
+    requires { (now.nodes < 18446744073709551615) × (now.elems < 18446744073709551615) }
+    ensures { result ≡ record { rest = rest.entry; nodes = now.entry.nodes + 1; elems = now.entry.elems + 1; deepest = max now.entry.deepest depth } }
 {
-    match piece {
-        Piece::Start(tag) => {
-            names.push(tag.name())?;
-            Ok(true)
-        }
-        Piece::Empty(_) => Ok(true),
-        Piece::Stretch(_) => Ok(true),
-        Piece::End(name, _) => match names.pop() {
-            Some(last) => Ok(last == *name),
-            None => Ok(false),
-        },
+    Idle {
+        rest,
+        nodes: now.nodes + 1,
+        elems: now.elems + 1,
+        deepest: now.deepest.max(depth),
     }
 }
 
-// Takes a piece to the open elements, if it may be passed over there.
+// Takes a piece to the open elements, if it may be passed over there. Gives what was passed over with it.
+#[inline(always)]
 fn pass_piece<'a>(
     scopes: &mut Spaces<'a>,
     names: &mut Vec<Name<'a>>,
     piece: &Piece<'a>,
-) -> Result<bool, AllocError>
-    ensures passed { IfOk result (λ passed. passed ≡ true → PassesPiece scopes.old names.old.items names.new.items (piece_view piece.now)) }
+    now: Idle<'a>,
+    rest: &'a [u8],
+) -> Result<Option<Idle<'a>>, AllocError>
+    requires { (now.nodes < 18446744073709551615) × (now.elems < 18446744073709551615) }
+    ensures passed { IfOk result (λ o. IfSome o (λ more. PassesOn scopes.old names.old.items names.new.items (piece_view piece.now) now.entry more)) }
+    ensures rest { IfOk result (λ o. IfSome o (λ more. more.rest ≡ rest.entry)) }
     ensures same { scopes.new ≡ scopes.old }
 {
-    if !may_pass(scopes, is_run_open(names), piece) {
-        return Ok(false);
-    }
-    take_name(names, piece)
-}
-
-fn nodes_of_piece(piece: &Piece<'_>) -> usize
-    ensures { result ≡ piece_count (piece_view piece.now) }
-{
+    let depth = names.len() + 1;
     match piece {
-        Piece::End(_, _) => 0,
-        _ => 1,
-    }
-}
-
-fn elems_of_piece(piece: &Piece<'_>) -> usize
-    ensures { result ≡ piece_elements (piece_view piece.now) }
-{
-    match piece {
-        Piece::Start(_) | Piece::Empty(_) => 1,
-        Piece::Stretch(_) | Piece::End(_, _) => 0,
-    }
-}
-
-// The greatest depth with one more piece, if an element that begins with it is at this depth.
-fn deepest_of_piece(piece: &Piece<'_>, depth: usize, deepest: usize) -> usize
-    ensures { result ≡ deepest_with (piece_view piece.now) depth deepest }
-{
-    match piece {
-        Piece::Start(_) | Piece::Empty(_) => deepest.max(depth),
-        Piece::Stretch(_) | Piece::End(_, _) => deepest,
+        Piece::Start(tag) => {
+            if !is_idle_start(scopes, is_run_open(names), tag) {
+                return Ok(None);
+            }
+            names.push(tag.name())?;
+            Ok(Some(with_element(now, rest, depth)))
+        }
+        Piece::Empty(tag) => {
+            if !is_idle_start(scopes, is_run_open(names), tag) {
+                return Ok(None);
+            }
+            Ok(Some(with_element(now, rest, depth)))
+        }
+        Piece::Stretch(_) => Ok(Some(Idle {
+            rest,
+            nodes: now.nodes + 1,
+            elems: now.elems,
+            deepest: now.deepest,
+        })),
+        Piece::End(name, _) => match names.pop() {
+            Some(last) if last == *name => Ok(Some(Idle {
+                rest,
+                nodes: now.nodes,
+                elems: now.elems,
+                deepest: now.deepest,
+            })),
+            _ => Ok(None),
+        },
     }
 }
 
@@ -286,12 +272,7 @@ pub(crate) fn skip_idle<'a>(
         }
         let depth = tries.names.len() + 1;
         if let Some(rest) = pass_bare(scopes, &mut tries.names, now.rest)? {
-            now = Idle {
-                rest,
-                nodes: now.nodes + 1,
-                elems: now.elems + 1,
-                deepest: now.deepest.max(depth),
-            };
+            now = with_element(now, rest, depth);
             whole = last_whole(&tries.names, now, whole);
             continue;
         }
@@ -302,15 +283,10 @@ pub(crate) fn skip_idle<'a>(
                 next: None,
             });
         };
-        if !pass_piece(scopes, &mut tries.names, &piece)? {
+        let Some(more) = pass_piece(scopes, &mut tries.names, &piece, now, rest)? else {
             return Ok(ended(&mut tries.list, whole, depth, piece, rest));
-        }
-        now = Idle {
-            rest,
-            nodes: now.nodes + nodes_of_piece(&piece),
-            elems: now.elems + elems_of_piece(&piece),
-            deepest: deepest_of_piece(&piece, depth, now.deepest),
         };
+        now = more;
         whole = last_whole(&tries.names, now, whole);
         give_back(&mut tries.list, piece);
     }

@@ -17,7 +17,7 @@ use Rattle.redl_xml.specs.Shapes.{depth_of}
 use Rattle.redl_xml.specs.declared.idle.Idle.{Idle}
 use Rattle.redl_xml.specs.declared.sizes.Limits.{Limits}
 use Rattle.redl_xml.specs.declared.sizes.Sizes.{Sizes}
-use Rattle.redl_xml.specs.Inside.Sizes.{capped}
+use Rattle.redl_xml.specs.Inside.Sizes.{capped, deepest_with}
 use Rattle.redl_xml.specs.Scopes.{Scope, space_of, is_element_prefix, is_plain_name}
 use Rattle.redl_tree.specs.Model.Laid.{Fits}
 use Rattle.redl_tree.specs.Model.IdleTexts.{idle_nodes}
@@ -92,6 +92,13 @@ names_view ns = map name_view (reverse ns)
 pub record PassesPiece (scope : Scope) (before after : List code.Name) (p : Piece) : Type 0 where
   pub taken : put_name p (names_view before) ≡ Some (names_view after)
   pub holds : HoldsIn (IsIdleIn scope) (is_run_open W (names_view before)) W p
+
+-- a piece was passed over, and is counted with what was passed over before
+pub record PassesOn (scope : Scope) (before after : List code.Name) (p : Piece) (now more : Idle) : Type 0 where
+  pub passes : PassesPiece scope before after p
+  pub nodes : more.nodes ≡ now.nodes + piece_count p
+  pub elems : more.elems ≡ now.elems + piece_elements p
+  pub deep : more.deepest ≡ deepest_with p (length before + 1) now.deepest
 
 -- a tag without attributes: a start tag, or else one of an empty element
 abbrev pub bare_tag : Bool → Name → Piece
