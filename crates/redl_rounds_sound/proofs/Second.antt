@@ -47,7 +47,8 @@ none_broken number (test ∷ later) parts all =
     let both = and_parts (holds test parts) (list_all (λ other. holds other parts) later) all in
     ap (λ (b : Bool). if b then first_broken (number + 1) later parts else Some number) both.0 ∙ none_broken (number + 1) later parts both.1
 
-depth-bare : (nodes : Nodes) → depth_of (unlabelled nodes) ≡ depth_of nodes
+-- labels leave the depth as it is
+pub depth-bare : (nodes : Nodes) → depth_of (unlabelled nodes) ≡ depth_of nodes
 depth-bare no_nodes = refl
 depth-bare (bytes b rest) = depth-bare rest
 depth-bare (element tag kids rest) =

@@ -1,4 +1,4 @@
--- What a call tells of what it left, and that this is read again where there was nothing to tell.
+-- What a call tells of what it left, and that this is read again exactly where there was nothing to tell.
 use Rattle.std.proofs.Common.{◌≡◌, ◌∙◌, refl, sym, ap, arith, ℕ, nat_lt, List, [], ◌++◌, length, append_assoc, Bool, true, false, not, Option, None, Some, Result, Ok}
 use Rattle.std.specs.List.{flat_map}
 use Rattle.std.proofs.lemmas.Bool.{ltb-false}
@@ -32,6 +32,7 @@ use Rattle.redl_reread_sound.specs.Again.{again}
 use Rattle.redl_reread_sound.specs.Together.{meet_well}
 use Rattle.redl_rounds_sound.proofs.OneFile.{reads_file}
 use Rattle.redl_rounds_sound.proofs.Second.{is-second, left-again}
+use Rattle.redl_rounds_sound.proofs.TakenAgain.{takes-again, refuses-told}
 use Rattle.redl_rounds_sound.specs.Second.{CanBeRead}
 use Rattle.redl_rounds_sound.specs.Told.{IsTakenUnlessTold, TakenUnlessTold, TellsOf}
 use Rattle.redl_session.specs.Sessions.{says}
@@ -141,4 +142,6 @@ taken_unless_told reader is files brought words command p name is_command decide
           is-second reader files brought name call.bytes (again nodes)
           (reads_file files name call.bytes package_bytes PackageBytes held (omega (arith, ap length l.written, short)))
           (left-again reader files (plan command) p call.bytes is l can);
+      refused = refuses-told reader files (plan command) p name call.bytes is l held brought;
+      taken = takes-again reader files (plan command) p name call.bytes is l held;
     }

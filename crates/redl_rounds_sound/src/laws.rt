@@ -38,10 +38,10 @@ pub fn left_is_taken_again()
     ensures { (reader : Reader) → IsReader reader → (files : Files) (brought : Brought) → LeftIsTakenAgain reader files brought }
 {}
 
-/// What `settle` or `write` wrote of a package is a package again, unless the call told that it will not be read again.
+/// What `settle` or `write` wrote of a package is a package again exactly unless the call told that it will not be read again.
 ///
 /// Its last lines are the notes on that: what was left is deeper or longer than a package may be, or stretches that meet in it form `]]>`.
-/// Where there is none, `check` takes what was written.
+/// Where there is none, `check` takes what was written; where there is one, no call takes it.
 pub fn taken_unless_told()
     ensures { (reader : Reader) → IsReader reader → (files : Files) (brought : Brought) → TakenUnlessTold reader files brought }
 {}
