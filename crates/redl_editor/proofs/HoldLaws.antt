@@ -1,16 +1,17 @@
 -- What leaves hold, a node and a slot at a time.
-use Rattle.std.proofs.Common.{◌≡◌, ◌<◌, ◌≤◌, ◌+◌, ◌==◌, ℕ, List, length, get_or, drop, Bool, true, false, ◌&&◌, ◌||◌, refl, sym, ap, ◌∙◌}
+use Rattle.std.proofs.Common.{◌≡◌, ◌<◌, ◌≤◌, ◌+◌, ◌==◌, ℕ, List, length, get_or, drop, Bool, true, false, true≢false, Result, Ok, Err, OnErr, ◌&&◌, ◌||◌, not, if◌then◌else◌, refl, sym, ap, ◌∙◌, arith}
 use Rattle.std.proofs.Math.Bool.{or_assoc, or-false}
 use Rattle.redl_tree.proofs.Model.Laws.{nodes_here, nodes_end}
 use Rattle.redl_tree.specs.Leaves.Leaf.{leaf_count}
 use Rattle.redl_tree.specs.Leaves.Settings.{has_member}
 use Rattle.redl_tree.specs.Leaves.States.{States, slots_of}
-use Rattle.redl_tree.specs.Model.Nodes.{Nodes, Item, in_front}
+use Rattle.redl_tree.specs.Model.IdleTexts.{idle_nodes}
+use Rattle.redl_tree.specs.Model.Nodes.{Nodes, no_nodes, bytes, element, Item, bytes_item, element_item, idle_item, in_front, ◌⊕◌}
 use Rattle.redl_tree.specs.Model.View.{nodes_of, item_of}
 use Rattle.redl_tree.specs.declared.node.Node.{Node}
-use Rattle.redl_leaves.proofs.MemberLaws.{member-in_front}
+use Rattle.redl_leaves.proofs.MemberLaws.{member-in_front, no_idle_member}
 use Rattle.redl_leaves.proofs.ViewLaws.{states_here, states_end}
-use Rattle.redl_editor.specs.Holdings.{is_rev, is_held, nodes_hold, item_holds, slots_hold, view_holds, view_count, Notes}
+use Rattle.redl_editor.specs.Holdings.{is_rev, is_held, nodes_hold, item_holds, slots_hold, view_holds, view_count, member_count, item_members, slots_members, view_members, Notes}
 use Rattle.redl_leaves.specs.Members.{item_member}
 use Rattle.redl_leaves.specs.View.{SlotView, leaf_view, container_view, before, view_of, states_of}
 use Rattle.redl_editor.specs.declared.holding.Held.{Held}
@@ -80,3 +81,58 @@ count-here xs i x within is = ap (λ s. leaf_count (slots_of s)) (states_here xs
 
 pub count-end : (xs : List Slot) (i : ℕ) → length xs ≤ i → leaf_count (slots_of (states_of (drop i xs))) ≡ 0
 count-end xs i past = ap (λ s. leaf_count (slots_of s)) (states_end xs i past)
+
+-- ---- how many notes there are
+
+-- what holds anyway holds after an error
+pub on-err : {T E : Type 0} {P : Type 0} (answer : Result T E) → P → OnErr answer P
+on-err (Ok x) holds = tt
+on-err (Err error) holds = holds
+
+members-⊕ : (xs ys : Nodes) → member_count (xs ⊕ ys) ≡ member_count xs + member_count ys
+members-⊕ no_nodes ys = omega arith
+members-⊕ (bytes b rest) ys = members-⊕ rest ys
+members-⊕ (element tag kids rest) ys = omega (arith, members-⊕ rest ys)
+
+members-front : (x : Item) (rest : Nodes) → member_count (in_front x rest) ≡ item_members x + member_count rest
+members-front (bytes_item b) rest = omega arith
+members-front (element_item tag kids) rest = refl
+members-front (idle_item t) rest = members-⊕ (idle_nodes t) rest
+
+pub members-here : (xs : List Node) (i : ℕ) (x : Node) → i < length xs → x ≡ get_or xs i x
+    → member_count (nodes_of (drop i xs)) ≡ item_members (item_of x) + member_count (nodes_of (drop (i + 1) xs))
+members-here xs i x within is = ap member_count (nodes_here xs i x within is) ∙ members-front (item_of x) (nodes_of (drop (i + 1) xs))
+
+pub members-end : (xs : List Node) (i : ℕ) → length xs ≤ i → member_count (nodes_of (drop i xs)) ≡ 0
+members-end xs i past = ap member_count (nodes_end xs i past)
+
+none-so : (a b c : Bool) → (not a || b || c) ≡ false → (a ≡ true) × (b ≡ false) × (c ≡ false)
+none-so true false false is = (refl, refl, refl)
+none-so true false true is = absurd (true≢false is)
+none-so true true c is = absurd (true≢false is)
+none-so false b c is = absurd (true≢false is)
+
+abbrev one_unless : Bool → ℕ
+one_unless b = if b then 0 else 1
+
+no-members : (nodes : Nodes) → has_member (λ n. not (n == 0)) nodes ≡ false → member_count nodes ≡ 0
+no-members no_nodes is = refl
+no-members (bytes b rest) is = no-members rest is
+no-members (element tag kids rest) is =
+    let none = none-so (tag.rev == 0) (has_member (λ n. not (n == 0)) kids) (has_member (λ n. not (n == 0)) rest) is in
+    omega (arith, ap one_unless none.0, no-members kids none.1, no-members rest none.2)
+
+-- idle elements are in no revision
+pub no-idle-members : (t : List ℕ) → item_members (idle_item t) ≡ 0
+no-idle-members t = no-members (idle_nodes t) (no_idle_member (λ n. not (n == 0)) refl t)
+
+slots-members-front : (x : SlotView) (rest : States) → slots_members (slots_of (before x rest)) ≡ view_members x + slots_members (slots_of rest)
+slots-members-front (leaf_view here present) rest = refl
+slots-members-front (container_view tag tally inner) rest = refl
+
+pub slots-members-here : (xs : List Slot) (i : ℕ) (x : Slot) → i < length xs → x ≡ get_or xs i x
+    → slots_members (slots_of (states_of (drop i xs))) ≡ view_members (view_of x) + slots_members (slots_of (states_of (drop (i + 1) xs)))
+slots-members-here xs i x within is = ap (λ s. slots_members (slots_of s)) (states_here xs i x within is) ∙ slots-members-front (view_of x) (states_of (drop (i + 1) xs))
+
+pub slots-members-end : (xs : List Slot) (i : ℕ) → length xs ≤ i → slots_members (slots_of (states_of (drop i xs))) ≡ 0
+slots-members-end xs i past = ap (λ s. slots_members (slots_of s)) (states_end xs i past)

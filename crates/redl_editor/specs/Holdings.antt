@@ -1,12 +1,13 @@
 -- Which leaves hold a member or a marker of which revisions. Leaves count from 0 in the order of the text.
-use Rattle.std.specs.Prelude.{ℕ, ◌+◌, ◌==◌, ◌≡◌, List, Bool, false, ◌&&◌, ◌||◌, not}
+use Rattle.std.specs.Prelude.{ℕ, ◌+◌, ◌==◌, ◌≡◌, List, Bool, false, ◌&&◌, ◌||◌, not, if◌then◌else◌}
 use Rattle.std.specs.List.{list_any}
 use Rattle.std.specs.List.Sorted.{IsNonDecreasingBy}
 use Rattle.redl_tree.specs.Leaves.Leaf.{leaf_count}
 use Rattle.redl_tree.specs.Leaves.Settings.{has_member}
 use Rattle.redl_tree.specs.Leaves.Slots.{Slots, no_slots, leaf_slot, container_slot}
 use Rattle.redl_tree.specs.Leaves.States.{slots_of}
-use Rattle.redl_tree.specs.Model.Nodes.{Nodes, Item}
+use Rattle.redl_tree.specs.Model.IdleTexts.{idle_nodes}
+use Rattle.redl_tree.specs.Model.Nodes.{Nodes, no_nodes, bytes, element, Item, bytes_item, element_item, idle_item}
 use Rattle.redl_leaves.specs.Members.{item_member}
 use Rattle.redl_leaves.specs.View.{SlotView, leaf_view, container_view}
 use Rattle.redl_editor.specs.declared.holding.Held.{Held}
@@ -40,6 +41,26 @@ view_holds first (container_view tag tally inner) rev leaf = slots_hold first (s
 abbrev pub view_count : SlotView → ℕ
 view_count (leaf_view here present) = 1
 view_count (container_view tag tally inner) = leaf_count (slots_of inner)
+
+-- how many elements of nodes at every depth, of one node, of slots and of one slot have the number of a revision
+abbrev pub member_count : Nodes → ℕ
+member_count no_nodes = 0
+member_count (bytes b rest) = member_count rest
+member_count (element tag kids rest) = (if tag.rev == 0 then 0 else 1) + member_count kids + member_count rest
+
+abbrev pub item_members : Item → ℕ
+item_members (bytes_item b) = 0
+item_members (element_item tag kids) = (if tag.rev == 0 then 0 else 1) + member_count kids
+item_members (idle_item t) = member_count (idle_nodes t)
+
+abbrev pub slots_members : Slots → ℕ
+slots_members no_slots = 0
+slots_members (leaf_slot here rest) = member_count here.nodes + slots_members rest
+slots_members (container_slot tag kids inner rest) = slots_members inner + slots_members rest
+
+abbrev pub view_members : SlotView → ℕ
+view_members (leaf_view here present) = member_count here.nodes
+view_members (container_view tag tally inner) = slots_members (slots_of inner)
 
 -- this was noted, and nothing else
 abbrev pub Notes : (ℕ → ℕ → Bool) → List Held → List Held → Type 0
