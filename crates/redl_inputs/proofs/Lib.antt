@@ -1,7 +1,7 @@
 pub mod NameLaws
 pub mod StepLaws
-pub mod FetchLaws
 pub mod AskLaws
+pub mod FetchLaws
 pub mod ReadLaws
 pub mod JournalLaws
 pub mod GatherLaws

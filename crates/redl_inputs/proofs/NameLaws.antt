@@ -4,11 +4,11 @@ use Rattle.std.proofs.lemmas.List.{drop_more, take_more, take-append-drop}
 
 -- ---- none
 
-pub none_before : (names more : List (List ℕ)) → names ++ more ≡ [] → names ≡ []
+pub none_before : {X : Type 0} (names more : List X) → names ++ more ≡ [] → names ≡ []
 none_before [] more none = refl
 none_before (name ∷ names) more none = absurd (cc none)
 
-pub none_behind : (names more : List (List ℕ)) → names ++ more ≡ [] → more ≡ []
+pub none_behind : {X : Type 0} (names more : List X) → names ++ more ≡ [] → more ≡ []
 none_behind [] more none = none
 none_behind (name ∷ names) more none = absurd (cc none)
 

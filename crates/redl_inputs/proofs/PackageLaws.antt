@@ -4,7 +4,7 @@ use Rattle.std.proofs.lemmas.Bool.{lt-ltb, le-ltb, cond-true, cond-false}
 use Rattle.redl_inputs.proofs.StepLaws.{same_ok}
 use Rattle.redl_inputs.specs.Packages.{limited, sound_unless, tree_in}
 use Rattle.redl_inputs.specs.Readers.{Reader, IsReader, IsTreeOf}
-use Rattle.redl_inputs.specs.Reading.{IsMade, Reads, NeverUnread}
+use Rattle.redl_inputs.specs.Reading.{IsMade, IsOfNoFile, Reads}
 use Rattle.redl_inputs.specs.Views.{result_view}
 use Rattle.redl_io.specs.Limits.{depth as depth_limit, nodes as node_limit}
 use Rattle.redl_lines.specs.Causes.{xml_failure}
@@ -81,7 +81,7 @@ tree_failed reader text xml.Depth is unreadable deep many = tree_too_deep reader
 tree_failed reader text xml.Nodes is unreadable deep many = tree_too_large reader text is (many refl)
 tree_failed reader text xml.NoMemory is unreadable deep many = tt
 
-xml_is_read : (error : XmlError) → NeverUnread {Y = Nodes} (Err (xml_failure error))
+xml_is_read : (error : XmlError) → IsOfNoFile {Y = Nodes} None (Err (xml_failure error))
 xml_is_read xml.Unreadable = tt
 xml_is_read xml.Depth = tt
 xml_is_read xml.Nodes = tt
@@ -101,7 +101,7 @@ pub tree_fails : {X : Type 0} (text : List ℕ) (error : XmlError)
     → Reads {Y = Nodes} (Err (xml_failure error)) (λ reader. tree_in (reader.tree text))
 tree_fails {X} text error unreadable deep many = record {
   as_due = λ reader is. tree_failed {X = X} reader text error is unreadable deep many;
-  never_unread = xml_is_read error;
+  of_no_file = xml_is_read error;
 }
 
 -- ---- a sound package

@@ -1,10 +1,13 @@
 //! Files from the shelf.
 
 ghost use Rattle.std.specs.Prelude.{◌≡◌, ◌<◌, ◌≤◌, ◌^◌, ◌∷◌, [], IfOk, IsUtf8, length};
+ghost use Rattle.redl_inputs.specs.Asking.{file_within};
 ghost use Rattle.redl_inputs.specs.Packages.{package_file};
 ghost use Rattle.redl_inputs.specs.Reading.{ReadsFiles, front_of};
 ghost use Rattle.redl_inputs.specs.Steps.{fetch_failure, held, file};
 ghost use Rattle.redl_inputs.specs.Views.{result_view};
+ghost use Rattle.redl_io.specs.Limits.{package_bytes};
+ghost use Rattle.redl_io.specs.Shelf.{request_for};
 ghost use Rattle.redl_lines.specs.Failures.{failure_view};
 
 use redl_io::{Shelf, ShelfError, Text};
@@ -29,7 +32,7 @@ pub fn fetch_package<'a, F: Shelf>(
     name: &'a str,
     shelf: &mut F,
 ) -> Result<Vec<u8>, Failure<'a>>
-    ensures { ReadsFiles F.told F.faults F.asked shelf.old shelf.new (name.now ∷ [])
+    ensures { ReadsFiles F.told F.faults F.asked shelf.old shelf.new (file_within package_bytes name.now ∷ [])
         (result_view (λ bytes. bytes.items) result) (λ reader files. package_file files name.now) }
 {
     fetch_file(alloc, name, PACKAGE_LIMIT, Limit::PackageBytes, shelf)
@@ -46,7 +49,7 @@ pub fn fetch_file<'a, F: Shelf>(
     shelf: &mut F,
 ) -> Result<Vec<u8>, Failure<'a>>
     requires { most < 2 ^ 32 }
-    ensures read { ReadsFiles F.told F.faults F.asked shelf.old shelf.new (name.now ∷ [])
+    ensures read { ReadsFiles F.told F.faults F.asked shelf.old shelf.new (file_within most name.now ∷ [])
         (result_view (λ bytes. bytes.items) result) (λ reader files. file files name.now most limit) }
     ensures within { IfOk result (λ bytes. length bytes.items ≤ most) }
 {
@@ -64,7 +67,7 @@ fn fetch_front<'a, F: Shelf>(
     cap: usize,
     shelf: &mut F,
 ) -> Result<Vec<u8>, Failure<'a>>
-    ensures { ReadsFiles F.told F.faults F.asked shelf.old shelf.new (name.now ∷ [])
+    ensures { ReadsFiles F.told F.faults F.asked shelf.old shelf.new (request_for name.now cap ∷ [])
         (result_view (λ bytes. bytes.items) result) (λ reader files. front_of cap (held name.now (files name.now))) }
 {
     match shelf.fetch(alloc, name, cap) {

@@ -1,9 +1,10 @@
 //! The journals of a call: the entries of each, or why it is refused.
 
-ghost use Rattle.std.specs.Prelude.{◌≡◌, ◌<◌, ◌≤◌, ◌^◌, ◌∷◌, [], All, IsUtf8, IfOk, OnOk};
+ghost use Rattle.std.specs.Prelude.{◌≡◌, ◌<◌, ◌≤◌, ◌^◌, ◌∷◌, [], All, IsUtf8, IfOk, OnOk, Some};
 ghost use Rattle.redl_inputs.specs.Admission.{admission_left};
+ghost use Rattle.redl_inputs.specs.Asking.{file_within, files_within};
 ghost use Rattle.redl_inputs.specs.Journals.{entries_of, first_journal, journal_at, journal_failure, journal_or_none, union_with};
-ghost use Rattle.redl_inputs.specs.Reading.{ReadsFiles, Reads};
+ghost use Rattle.redl_inputs.specs.Reading.{ReadsFiles, ReadsText};
 ghost use Rattle.redl_inputs.specs.Views.{admission_view, document_view, known_view, result_view};
 ghost use Rattle.redl_lines.specs.Failures.{failure_view};
 ghost use Rattle.redl_join.specs.Books.{union};
@@ -35,7 +36,7 @@ pub fn admit_journals<'a, 'b, F: Shelf>(
     requires utf8 { All IsUtf8 journals.now }
     requires limit { limit < 2 ^ 32 }
     requires document { document_view document ≡ known_view before.document }
-    ensures read { ReadsFiles F.told F.faults F.asked shelf.old shelf.new journals.now
+    ensures read { ReadsFiles F.told F.faults F.asked shelf.old shelf.new (files_within limit journals.now)
         (result_view (λ x. (admission_view x.0, x.1)) result) (λ reader files. admission_left reader files (admission_view before.entry) limit journals.now) }
     ensures within { IfOk result (λ x. x.1 ≤ limit) }
     ensures nodes { IfOk result (λ x. x.0.session.nodes ≡ before.entry.session.nodes) }
@@ -63,7 +64,7 @@ pub fn join_journals<'a, F: Shelf>(
 ) -> Result<Book, Failure<'a>>
     requires utf8 { All IsUtf8 journals.now }
     requires limit { limit < 2 ^ 32 }
-    ensures { ReadsFiles F.told F.faults F.asked shelf.old shelf.new journals.now
+    ensures { ReadsFiles F.told F.faults F.asked shelf.old shelf.new (files_within limit journals.now)
         (result_view (λ book. book) result) (λ reader files. union_with reader files (document_view document) limit before journals.now) }
 {
     let mut book = before;
@@ -95,7 +96,7 @@ pub fn read_first<'a, F: Shelf>(
     shelf: &mut F,
 ) -> Result<(Journal, usize), Failure<'a>>
     requires { most < 2 ^ 32 }
-    ensures read { ReadsFiles F.told F.faults F.asked shelf.old shelf.new (name.now ∷ [])
+    ensures read { ReadsFiles F.told F.faults F.asked shelf.old shelf.new (file_within most name.now ∷ [])
         (result_view (λ x. (journal_of x.0, x.1)) result) (λ reader files. first_journal reader files most name.now) }
     ensures allowed { IfOk result (λ x. All IsAllowed x.0.entries.items) }
     ensures within { IfOk result (λ x. x.1 ≤ most) }
@@ -114,7 +115,7 @@ fn read_journal<'a, F: Shelf>(
     shelf: &mut F,
 ) -> Result<(Vec<Entry>, usize), Failure<'a>>
     requires { left < 2 ^ 32 }
-    ensures read { ReadsFiles F.told F.faults F.asked shelf.old shelf.new (name.now ∷ [])
+    ensures read { ReadsFiles F.told F.faults F.asked shelf.old shelf.new (file_within left name.now ∷ [])
         (result_view (λ x. (x.0.items, x.1)) result) (λ reader files. journal_at reader files (document_view document) left name.now) }
     ensures allowed { IfOk result (λ x. All IsAllowed x.0.items) }
     ensures within { IfOk result (λ x. x.1 ≤ left) }
@@ -131,7 +132,7 @@ fn read_entries<'a>(
     name: &'a str,
     bytes: &[u8],
 ) -> Result<Vec<Entry>, Failure<'a>>
-    ensures read { Reads (result_view (λ entries. entries.items) result) (λ reader. entries_of (document_view document) name.now (reader.journal bytes.now)) }
+    ensures read { ReadsText (Some name.now) (result_view (λ entries. entries.items) result) (λ reader. entries_of (document_view document) name.now (reader.journal bytes.now)) }
     ensures allowed { IfOk result (λ entries. All IsAllowed entries.items) }
 {
     let journal = parse(alloc, name, bytes)?;
@@ -154,7 +155,7 @@ fn read_entries<'a>(
 
 // The journal with this text.
 fn parse<'a>(alloc: Global, name: &'a str, bytes: &[u8]) -> Result<Journal, Failure<'a>>
-    ensures read { Reads (result_view (λ journal. journal_of journal) result) (λ reader. journal_or_none name.now (reader.journal bytes.now)) }
+    ensures read { ReadsText (Some name.now) (result_view (λ journal. journal_of journal) result) (λ reader. journal_or_none name.now (reader.journal bytes.now)) }
     ensures allowed { IfOk result (λ journal. All IsAllowed journal.entries.items) }
 {
     match read(alloc, bytes) {

@@ -2,10 +2,12 @@
 
 ghost use Rattle.std.specs.Prelude.{◌≡◌, ◌<◌, ◌≤◌, ◌^◌, None, All, IsUtf8, IfOk};
 ghost use Rattle.redl_inputs.specs.Admission.{no_admission, opened, opened_over, sitting_over};
+ghost use Rattle.redl_inputs.specs.Asking.{files_within};
 ghost use Rattle.redl_inputs.specs.Reading.{ReadsFiles};
 ghost use Rattle.redl_inputs.specs.Views.{admission_view, result_view};
 ghost use Rattle.redl_index.specs.Numbers.{numbered_package};
 ghost use Rattle.redl_index.specs.Revisions.{revisions_of};
+ghost use Rattle.redl_io.specs.Limits.{journal_bytes};
 ghost use Rattle.redl_rules.specs.Attributes.{broken_rule};
 
 use crate::admitted::Admitted;
@@ -29,7 +31,7 @@ pub fn open<'a, 'b, F: Shelf>(
     shelf: &mut F,
 ) -> Result<Admitted<'b>, Failure<'a>>
     requires { All IsUtf8 journals.now }
-    ensures { ReadsFiles F.told F.faults F.asked shelf.old shelf.new journals.now
+    ensures { ReadsFiles F.told F.faults F.asked shelf.old shelf.new (files_within journal_bytes journals.now)
         (result_view admission_view result) (λ reader files. opened reader files locks.now journals.now bytes.now) }
 {
     let package = read_package(alloc, bytes)?;
@@ -48,7 +50,7 @@ pub fn open_package<'a, 'b, F: Shelf>(
 ) -> Result<Admitted<'b>, Failure<'a>>
     requires utf8 { All IsUtf8 journals.now }
     requires sound { broken_rule pkg ≡ None }
-    ensures read { ReadsFiles F.told F.faults F.asked shelf.old shelf.new journals.now
+    ensures read { ReadsFiles F.told F.faults F.asked shelf.old shelf.new (files_within journal_bytes journals.now)
         (result_view admission_view result) (λ reader files. opened_over reader files locks.now journals.now bytes.now pkg.entry) }
     ensures nodes { IfOk result (λ admitted. admitted.session.nodes ≡ numbered_package pkg.entry) }
     ensures revisions { IfOk result (λ admitted. admitted.session.revisions ≡ revisions_of pkg.entry) }
@@ -75,7 +77,7 @@ pub fn sit<'a, 'b, F: Shelf>(
     requires utf8 { All IsUtf8 journals.now }
     requires limit { limit < 2 ^ 32 }
     requires sound { broken_rule pkg ≡ None }
-    ensures read { ReadsFiles F.told F.faults F.asked shelf.old shelf.new journals.now
+    ensures read { ReadsFiles F.told F.faults F.asked shelf.old shelf.new (files_within limit journals.now)
         (result_view (λ x. (admission_view x.0, x.1)) result) (λ reader files. sitting_over reader files limit journals.now bytes.now pkg.entry) }
     ensures within { IfOk result (λ x. x.1 ≤ limit) }
     ensures nodes { IfOk result (λ x. x.0.session.nodes ≡ numbered_package pkg.entry) }

@@ -4,12 +4,12 @@ use Rattle.std.proofs.lemmas.List.{drop_all, take_all, take-append-drop}
 use Rattle.std.proofs.lemmas.List.Elements.{All-get_or}
 use Rattle.std.proofs.lemmas.Result.{err_from_is_err_and}
 use Rattle.redl_join.proofs.Unions.{union-append}
-use Rattle.redl_inputs.proofs.AskLaws.{ask_more-nothing, asked_all, asked_more}
+use Rattle.redl_inputs.proofs.AskLaws.{asked_all, asks_nothing, asks_one_more, files_within-append, within_more}
 use Rattle.redl_inputs.proofs.GatherLaws.{taking_begins, taking_goes_on, taking_stops, taking_ends}
 use Rattle.redl_inputs.proofs.NameLaws.{is_at}
-use Rattle.redl_inputs.proofs.ReadLaws.{reads_no_memory}
+use Rattle.redl_inputs.proofs.ReadLaws.{reads_no_memory, reads_within}
+use Rattle.redl_inputs.specs.Asking.{AsksAll, file_within, files_within}
 use Rattle.redl_inputs.specs.Journals.{union_with}
-use Rattle.redl_io.specs.Shelf.{ask_more}
 use Rattle.redl_join.specs.Books.{union}
 use Rattle.redl_inputs.specs.Views.{document_view}
 use Rattle.redl_inputs.proofs.journals.join_journals.Goals as goal
@@ -24,7 +24,7 @@ loop-journal-init g c = record {
   taking = taking_begins union (g.F.Shelf.told c.args.shelf.now) (document_view c.args.document) (c.args.before) c.args.limit c.args.journals.now;
   told = refl;
   stands = refl;
-  asked = ask_more-nothing (g.F.Shelf.asked c.args.shelf.now);
+  asked = asks_nothing (g.F.Shelf.asked c.args.shelf.now);
 }
 
 pub returns-in_err-entries : goal.returns-in_err-entries
@@ -35,9 +35,9 @@ returns-in_err-entries g c =
     let name = c.name_of.result.now in
     let at = is_at journals index name c.journal-item.result c.loop-journal-test.true c.journal-item.is c.name_of.ensures in
     rw (p.1, p.2) (taking_stops union c.args.shelf.now (document_view c.args.document) (λ reader files. union_with reader files (document_view c.args.document) c.args.limit c.args.before journals)
-    (c.loop-journal.book) c.loop-journal.left (take index journals) name (drop (index + 1) journals) journals at.split
+    (c.loop-journal.book) c.args.limit c.loop-journal.left (take index journals) name (drop (index + 1) journals) journals at.split
     c.loop-journal.invariant.told c.loop-journal.invariant.stands c.loop-journal.invariant.asked (rw at.left at c.loop-journal.invariant.taking)
-    c.in_err-entries.ensures.read)
+    (reads_within (file_within c.loop-journal.left name ∷ []) (file_within c.args.limit name ∷ []) (within_more (name ∷ []) c.loop-journal.invariant.left) c.in_err-entries.ensures.read))
 
 pub returns-in_err-add_entries : goal.returns-in_err-add_entries
 returns-in_err-add_entries g c =
@@ -46,10 +46,10 @@ returns-in_err-add_entries g c =
     let index = c.loop-journal.journal-index in
     let name = c.name_of.result.now in
     let at = is_at journals index name c.journal-item.result c.loop-journal-test.true c.journal-item.is c.name_of.ensures in
-    rw (p.1, p.2) (reads_no_memory (take (index + 1) journals) (drop (index + 1) journals) _ (sym (take-append-drop (index + 1) journals))
+    rw (p.1, p.2) (reads_no_memory (files_within c.args.limit (take (index + 1) journals)) (files_within c.args.limit (drop (index + 1) journals)) _
+    (ap (files_within c.args.limit) (sym (take-append-drop (index + 1) journals)) ∙ files_within-append c.args.limit (take (index + 1) journals) (drop (index + 1) journals))
     (c.in_ok-entries.ensures.read.same_files ∙ c.loop-journal.invariant.told) (c.in_ok-entries.ensures.read.stands ∙ c.loop-journal.invariant.stands)
-    (asked_more (g.F.Shelf.asked c.args.shelf.now) (take index journals) (name ∷ []) c.loop-journal.invariant.asked (asked_all c.in_ok-entries.ensures.read.asks)
-    ∙ ap (ask_more (g.F.Shelf.asked c.args.shelf.now)) (sym at.more)))
+    (rw at.more (asks_one_more c.args.limit c.loop-journal.left (take index journals) name c.loop-journal.invariant.left c.loop-journal.invariant.asked (asked_all c.in_ok-entries.ensures.read.asks))))
 
 pub loop-journal-preserved : goal.loop-journal-preserved
 loop-journal-preserved g c =
@@ -59,15 +59,14 @@ loop-journal-preserved g c =
     let at = is_at journals index name c.journal-item.result c.loop-journal-test.true c.journal-item.is c.name_of.ensures in
     let next = taking_goes_on union (λ state first more. sym (union-append state first more)) c.args.shelf.now journals (document_view c.args.document) (λ reader files. union_with reader files (document_view c.args.document) c.args.limit c.args.before journals)
     (c.loop-journal.book) c.loop-journal.left (take index journals) name (drop (index + 1) journals)
-    c.in_ok-entries.entries.items c.in_ok-entries.size at.split c.loop-journal.invariant.told (rw at.left at c.loop-journal.invariant.taking)
+    c.in_ok-entries.entries.items c.in_ok-entries.size (file_within c.loop-journal.left name) at.split c.loop-journal.invariant.told (rw at.left at c.loop-journal.invariant.taking)
     c.in_ok-entries.ensures.read in
     record {
       left = omega (arith, c.loop-journal.invariant.left);
       taking = rw c.in_ok-add_entries.ensures next;
       told = c.in_ok-entries.ensures.read.same_files ∙ c.loop-journal.invariant.told;
       stands = c.in_ok-entries.ensures.read.stands ∙ c.loop-journal.invariant.stands;
-      asked = asked_more (g.F.Shelf.asked c.args.shelf.now) (take index journals) (name ∷ []) c.loop-journal.invariant.asked (asked_all c.in_ok-entries.ensures.read.asks)
-          ∙ ap (ask_more (g.F.Shelf.asked c.args.shelf.now)) (sym at.more);
+      asked = rw at.more (asks_one_more c.args.limit c.loop-journal.left (take index journals) name c.loop-journal.invariant.left c.loop-journal.invariant.asked (asked_all c.in_ok-entries.ensures.read.asks));
     }
 
 pub returns : goal.returns
@@ -75,6 +74,6 @@ returns g c =
     let journals = c.args.journals.now in
     let none = drop_all c.loop-journal.journal-index journals (omega arith) in
     taking_ends union (λ state. refl) c.args.shelf.now (document_view c.args.document) (λ reader files. union_with reader files (document_view c.args.document) c.args.limit c.args.before journals)
-    (c.loop-journal.book) c.loop-journal.left journals
+    (c.loop-journal.book) c.args.limit c.loop-journal.left journals
     c.loop-journal.invariant.told c.loop-journal.invariant.stands (rw (take_all c.loop-journal.journal-index journals (omega arith)) at c.loop-journal.invariant.asked)
     (rw none at c.loop-journal.invariant.taking)

@@ -1,4 +1,4 @@
-use Rattle.std.proofs.Common.{sym}
+use Rattle.std.proofs.Common.{refl, sym}
 use Rattle.std.proofs.lemmas.Result.{err_from_is_err_and}
 use Rattle.redl_inputs.proofs.JournalLaws.{entries_other_document, entries_other_count, entries_of_it}
 use Rattle.redl_inputs.proofs.ReadLaws.{takes_stops, takes_then}
@@ -17,7 +17,7 @@ returns-then-ne-clause-read c =
     takes_then (λ journal reader. entries_in (document_view c.args.document) c.args.name.now journal) c.in_ok-journal.ensures.read
     (record {
       as_due = λ reader is. entries_other_document (document_view c.args.document) c.args.name.now (journal_of c.in_ok-journal.journal) (sym c.if-ne.ensures);
-      never_unread = tt;
+      of_no_file = refl;
     })
 
 pub returns-then-journal-document-clause-read : goal.returns-then-journal-document-clause-read
@@ -25,7 +25,7 @@ returns-then-journal-document-clause-read c =
     takes_then (λ journal reader. entries_in (document_view c.args.document) c.args.name.now journal) c.in_ok-journal.ensures.read
     (record {
       as_due = λ reader is. entries_other_count (document_view c.args.document) c.args.name.now (journal_of c.in_ok-journal.journal) (sym c.if-ne.ensures) c.if-journal-document.true;
-      never_unread = tt;
+      of_no_file = refl;
     })
 
 pub returns-clause-read : goal.returns-clause-read
@@ -33,5 +33,5 @@ returns-clause-read c =
     takes_then (λ journal reader. entries_in (document_view c.args.document) c.args.name.now journal) c.in_ok-journal.ensures.read
     (record {
       as_due = λ reader is. entries_of_it (document_view c.args.document) c.args.name.now (journal_of c.in_ok-journal.journal) (sym c.if-ne.ensures) c.if-journal-document.false;
-      never_unread = tt;
+      of_no_file = tt;
     })

@@ -8,7 +8,7 @@ pub returns-clause-read : goal.returns-clause-read
 returns-clause-read c = record {
   as_due = λ reader is. tree_read reader c.args.bytes.now (nodes_of c.in_ok-read.field-0.items) is c.in_ok-read.ensures.found
       c.in_ok-read.ensures.within.0 c.in_ok-read.ensures.within.1;
-  never_unread = tt;
+  of_no_file = tt;
 }
 
 pub returns-clause-unlabelled : goal.returns-clause-unlabelled
