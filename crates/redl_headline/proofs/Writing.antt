@@ -33,7 +33,7 @@ use Rattle.redl_outcome.proofs.LeftLaws.{is_made, sound_package}
 use Rattle.redl_outcome.specs.Answers.{IsAnswer, IsWritten, OfOutcome, Writes}
 use Rattle.redl_outcome.specs.Brought.{Brought}
 use Rattle.redl_outcome.specs.Outcome.{outcome, writing_of}
-use Rattle.redl_reread_sound.proofs.Again.{reread}
+use Rattle.redl_reread_sound.proofs.Again.{reread, unread}
 use Rattle.redl_rounds_sound.proofs.Packages.{reads_package}
 use Rattle.redl_rules.specs.Attributes.{declares, has_id}
 use Rattle.redl_session.specs.Refusals.{cause_of, refusals, refused}
@@ -44,8 +44,11 @@ use Rattle.redl_stays_sound.proofs.Decided.{decided_go}
 use Rattle.redl_stays_sound.proofs.Staying.Walk.{kept-stay as members_stay}
 use Rattle.redl_stays_sound.proofs.Stories.{kept_stay}
 use Rattle.redl_tree.proofs.Revisions.NumberLaws.{numbered-indexed}
+use Rattle.redl_tree.specs.Decisions.Packages.{pass_package}
 use Rattle.redl_tree.specs.Model.Nodes.{Nodes}
+use Rattle.redl_tree.specs.Model.Text.{text}
 use Rattle.redl_words.specs.Commands.{IsCommand, write}
+use Rattle.redl_xml.specs.Readings.{HasNoReading}
 
 -- ---- the status
 
@@ -81,20 +84,24 @@ is_writing reader files p locks journals writing is made =
     let entries = both_ok (gathered reader files (document_of file.x read.x) journal_bytes journals) (λ entries. Ok (admission_with (no_admission file.x read.x locks) entries)) opens.x read.second in
     let same : resolved locks (admission_with (no_admission file.x read.x locks) entries.x) ≡ writing = ap (resolved locks) (same_ok entries.second) ∙ same_ok opens.second in
     let says = verdicts read.x locks entries.x in
-    let numbered = numbered_sound attribute_value has_id declares read.x (sound_package reader file.x read.x read.first) in
+    let reading = reads_package reader file.x read.x is read.first in
+    let is_sound_package = sound_package reader file.x read.x read.first in
+    let numbered = numbered_sound attribute_value has_id declares read.x is_sound_package in
+    let bytes : text (pass_package says (numbered_package read.x)) ≡ writing.bytes = ap (λ (w : Writing). w.bytes) same in
     record {
       whole = file.x;
       nodes = read.x;
       package_file = is_package reader files p file.x read.x is file.first read.first;
       entries = entries.x;
       journal_files = are_entries reader files file.x read.x journal_bytes journals entries.x is entries.first;
-      written = ap (λ (w : Writing). w.bytes) (sym same);
+      written = sym bytes;
       texts = survival-package attribute_value says (numbered_package read.x) (numbered-indexed attribute_value read.x);
       sound = soundness attribute_value has_id declares says (numbered_package read.x) numbered;
       marked = kept_stay attribute_value says (numbered_package read.x) (numbered-indexed attribute_value read.x);
       members = members_stay attribute_value has_id declares says (numbered_package read.x) numbered.indexed numbered.sound;
       decided = decided_go attribute_value says (numbered_package read.x) numbered.indexed;
-      again = reread file.x read.x says (reads_package reader file.x read.x is read.first) (sound_package reader file.x read.x read.first);
+      again = reread file.x read.x says reading is_sound_package;
+      no_tree = λ badly. subst (λ (z : List ℕ). HasNoReading z) bytes (unread file.x read.x says reading is_sound_package badly);
       status = ap (λ (w : Writing). (outcome_of (Ok w)).status) (sym same)
           ∙ ap written_status (append-nil (with_refusals [] (refusals (revisions_of read.x) locks entries.x)))
           ∙ same_status (revisions_of read.x) locks entries.x;

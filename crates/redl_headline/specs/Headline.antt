@@ -1,5 +1,5 @@
 -- What `write P J ..` promises, in one screen (ECMA-376 Part 1, 17.13.5). `docs/PROVED.md` has a reading order of the definitions below.
-use Rattle.std.specs.Prelude.{◌≡◌, ◌⊎◌, ℕ, true, List, [], ◌∷◌, ◌++◌, length, map, Option, None, Some}
+use Rattle.std.specs.Prelude.{◌≡◌, ◌⊎◌, ℕ, true, false, List, [], ◌∷◌, ◌++◌, length, map, Option, None, Some}
 use Rattle.sha2.specs.Sha256.{sha256}
 use Rattle.redl_index.specs.Numbers.{numbered_package, package_revisions}
 use Rattle.redl_index.specs.Revisions.{revisions_of}
@@ -26,7 +26,7 @@ use Rattle.redl_tree.specs.Model.Text.{text}
 use Rattle.redl_tree.specs.Rules.Sound.{is_sound}
 use Rattle.redl_tree.specs.declared.kinds.Say.{Say}
 use Rattle.redl_words.specs.Commands.{IsCommand, write}
-use Rattle.redl_xml.specs.Readings.{IsReading}
+use Rattle.redl_xml.specs.Readings.{IsReading, HasNoReading}
 
 -- the file of this name is the XML of a sound package with these nodes
 pub record IsPackage (files : Files) (name whole : List ℕ) (nodes : Nodes) : Type 0 where
@@ -83,6 +83,8 @@ pub record IsWriting (files : Files) (p : List ℕ) (locks : List Lock) (journal
       ≡ map (λ _. []) (stories (numbered_package nodes))
   -- where no stretches that meet form `]]>`, it is read again as a sound package of the same shape, with no more nodes
   pub again : meet_well (pass_package (verdicts nodes locks entries) (numbered_package nodes)) ≡ true → IsReread (verdicts nodes locks entries) nodes
+  -- and where some do, the bytes have no tree
+  pub no_tree : meet_well (pass_package (verdicts nodes locks entries) (numbered_package nodes)) ≡ false → HasNoReading bytes
   -- an entry is refused where it is on a revision that is held or not there
   pub status : ended ≡ status_of (refused (revisions_of nodes) locks entries)
 
