@@ -16,6 +16,8 @@ from returned.words import ACCEPT, EITHER, OPEN, REJECT, UNTOLD
 
 # Who the journals that no one sees are by.
 NOBODY = "returned"
+# Of a document below so many bytes the text alone is tried whatever differs: where an object is gone the search may have gone astray.
+SMALL = 1000000
 
 
 class Answer:
@@ -52,7 +54,7 @@ def answer_for(program, package, back):
         tell_clauses(answer.differences, first, package[1])
         return answer
     answer = attempt(program, package, back, first, second, View(True, names))
-    if answer.differences and answer.objects_differ:
+    if answer.differences and (answer.objects_differ or len(back[1]) < SMALL):
         first, second = read_both(package[1], back[1], False, names)
         other = attempt(program, package, back, first, second, View(False, names))
         answer = answer if other.differences else other
@@ -97,4 +99,4 @@ def check(program, package, comparison, answer):
     words.update(dict.fromkeys(answer.untold(), ACCEPT))
     pairs = comparison.unlike(program.written(package[0], NOBODY, words))
     answer.differences = compare.differences_of(pairs, answer.view)
-    answer.objects_differ = bool(answer.differences) and compare.objects_differ(pairs)
+    answer.objects_differ = bool(answer.differences) and compare.objects_differ(pairs, answer.view)

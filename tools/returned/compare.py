@@ -127,10 +127,10 @@ def after_paragraph(text, place):
     return 0
 
 
-def objects_differ(pairs):
-    """Whether the stories of a pair have other pictures, references or fields, or in another order."""
+def objects_differ(pairs, view):
+    """Whether the stories of a pair have other pictures, references or fields, or in another order, or the codes of fields alone differ."""
     for _, one, other in pairs:
         signs = [bare.own_lines(story.text, bare.OBJECTS) if story is not None else [] for story in (one, other)]
         if signs[0] != signs[1]:
             return True
-    return False
+    return not differences_of(pairs, bare.View(False, view.names))

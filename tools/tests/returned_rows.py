@@ -44,6 +44,11 @@ def formatted(now, before=None):
     return "<w:r><w:rPr>%s%s</w:rPr><w:t>x</w:t></w:r>" % (now, former)
 
 
+COUNTED = '<w:fldSimple w:instr="%%s">%s</w:fldSimple>' % text("1")
+LINK = (
+    '<w:r><w:fldChar w:fldCharType="begin"/></w:r><w:r><w:delInstrText>HYPERLINK "x"</w:delInstrText></w:r>'
+    '<w:r><w:fldChar w:fldCharType="separate"/></w:r>%s<w:r><w:fldChar w:fldCharType="end"/></w:r>'
+)
 BOLD, ITALIC, CAPS = "<w:b/>", "<w:i/>", "<w:caps/>"
 MARKED = paragraph("<w:pPr><w:rPr>%s</w:rPr></w:pPr>" % change("ins", ""), text("a")) + paragraph(text("b"))
 # What was sent, what came back, the entries of the journal (a revision and its word), and the lines about what else is new.
@@ -79,6 +84,16 @@ ROWS = (
     ),
     (
         "an object that went", paragraph(text("a"), change("ins", text("b")), "<w:r><w:ptab/></w:r>"), paragraph(text("ab")), "1 accept",
+        ("pictures, references or fields differ; the text alone was compared",),
+    ),
+    (
+        "a field's code that was written anew", paragraph(text("a"), change("ins", text("b")), COUNTED % r"PAGE   \* MERGEFORMAT"),
+        paragraph(text("ab"), COUNTED % "PAGE"), "1 accept",
+        ("pictures, references or fields differ; the text alone was compared",),
+    ),
+    (
+        "a deletion that lost its field", paragraph(text("a"), change("del", LINK % deleted("b"))),
+        paragraph(text("a"), change("del", deleted("b"))), "",
         ("pictures, references or fields differ; the text alone was compared",),
     ),
     (
