@@ -45,6 +45,8 @@ def excerpts(mine, its):
     one, other = ("\u00b6".join(map(bare.plain, paragraphs)) for paragraphs in (mine, its))
     if one == other:
         one, other = ("".join(map(bare.marked, paragraphs)) for paragraphs in (mine, its))
+    if one == other and len(mine) != len(its):
+        one, other = ("\u00b6" * len(paragraphs) for paragraphs in (mine, its))
     least = min(len(one), len(other))
     begin = next((at for at in range(least) if one[at] != other[at]), least)
     end = next((at for at in range(least - begin) if one[-1 - at] != other[-1 - at]), least - begin)

@@ -138,6 +138,13 @@ def comments(caller):
         tell("returned: " + name, got, (1, "", lines))
 
 
+def empty_paragraphs(caller):
+    """An empty paragraph more or less is told by its sign."""
+    one, both = package(paragraph(text("a"))), package(paragraph(text("a")) + paragraph())
+    for name, pair, said in (("more", (one, both), '"\u00b6" where the decisions give nothing'), ("less", (both, one), 'nothing where the decisions give "\u00b6"')):
+        tell("returned: an empty paragraph " + name, caller.returned(*pair), (13, "", ("the document, paragraph 2: " + said,)))
+
+
 def footed(body, *footers):
     """A package of two sections, of which the second has the last of these footers, each a number and its text."""
     parts = "".join(PART % ("/word/footer%d.xml" % number, "<w:ftr %s>%s</w:ftr>" % (W, paragraph(text(words)))) for number, words in footers)
@@ -165,6 +172,7 @@ def main(docx, program):
             got = caller.returned(package(document), package(document if back is None else back))
             tell("returned: " + title, got, (1 if lines else 0, entries, lines))
         comments(caller)
+        empty_paragraphs(caller)
         footers(caller)
 
 
