@@ -6,9 +6,10 @@ use Rattle.redl_outcome.specs.Brought.{Brought}
 use Rattle.redl_outcome.specs.Sittings.{Resumes}
 use Rattle.redl_outcome.specs.Files.{files_of}
 use Rattle.redl_outcome.specs.Plans.{plan}
-use Rattle.redl_inputs.proofs.AskLaws.{ask_more-nothing}
+use Rattle.redl_inputs.proofs.AskLaws.{asks_nothing}
 use Rattle.redl_inputs.proofs.ReaderLaws.{reads_command}
 use Rattle.redl_io.specs.Shelf.{Files}
+use Rattle.redl_io.specs.declared.shelf.Request.{Request}
 use Rattle.redl_lines.specs.Ends.{Tells}
 use Rattle.redl_lines.specs.Lines.{no_memory_line}
 use Rattle.redl_lines.specs.declared.status.Status.TheVariants as status
@@ -27,7 +28,7 @@ resumes_nothing held words brought p q firsts journals is files reader reads may
 )
 
 -- nothing was taken and nothing went out but the line
-pub answers_without_memory : {F O E : Type 0} (held : F → Option Files) (misses : F → ℕ) (noted : F → Option (List (List ℕ))) (shelf : F) (told : O → Option (List ℕ)) (faults : O → ℕ) (out : O)
+pub answers_without_memory : {F O E : Type 0} (held : F → Option Files) (misses : F → ℕ) (noted : F → Option (List Request)) (shelf : F) (told : O → Option (List ℕ)) (faults : O → ℕ) (out : O)
     (lines_told : E → Option (List ℕ)) (line_faults : E → ℕ) (err err_new : E) (words : List (List ℕ)) (brought : Brought)
     → Tells lines_told line_faults err err_new no_memory_line
     → Answers held misses noted shelf shelf told faults out out lines_told line_faults err err_new words brought status.NoMemory
@@ -37,7 +38,7 @@ answers_without_memory held misses noted shelf told faults out lines_told line_f
   only_usage = λ e. absurd (cc e);
   read = λ e. absurd (cc e);
   write = λ e. absurd (cc e);
-  asked = λ command reads. record { front = []; later = files_of brought (plan command); prefix = refl; asked = ask_more-nothing (noted shelf); ends = tt };
+  asked = λ command reads. record { front = []; later = files_of brought (plan command); prefix = refl; asked = asks_nothing (noted shelf); ends = tt };
   unasked = λ none. refl;
   shelf_stands = λ other. refl;
   out_stands = λ other. refl;

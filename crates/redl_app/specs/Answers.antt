@@ -8,6 +8,7 @@ use Rattle.redl_outcome.specs.Plans.{plan}
 use Rattle.redl_outcome.specs.Sittings.{Resumes}
 use Rattle.redl_io.specs.Faults.{Rose}
 use Rattle.redl_io.specs.Shelf.{Files}
+use Rattle.redl_io.specs.declared.shelf.Request.{Request}
 use Rattle.redl_lines.specs.Ends.{Tells}
 use Rattle.redl_lines.specs.declared.status.Status.{Status}
 use Rattle.redl_lines.specs.declared.status.Status.TheVariants.{Done, NoMemory, ReadFault, Refused, Usage, WriteFault}
@@ -15,7 +16,7 @@ use Rattle.redl_words.specs.Commands.{Command, HasNoCommand, IsCommand}
 
 -- A call with these words ended with this status. The shelf, the output and the lines are given by what they tell and count, before and after.
 pub record Answers {F O E : Type 0}
-    (held : F → Option Files) (misses : F → ℕ) (noted : F → Option (List (List ℕ))) (shelf shelf_new : F)
+    (held : F → Option Files) (misses : F → ℕ) (noted : F → Option (List Request)) (shelf shelf_new : F)
     (told : O → Option (List ℕ)) (faults : O → ℕ) (out out_new : O)
     (lines_told : E → Option (List ℕ)) (line_faults : E → ℕ) (err err_new : E)
     (words : List (List ℕ)) (brought : Brought) (ended : Status) : Type 0 where
@@ -26,7 +27,8 @@ pub record Answers {F O E : Type 0}
   pub only_usage : ended ≡ Usage → AreMisused words brought
   pub read : ended ≡ ReadFault → MayFault words brought (held shelf) (Rose (misses shelf) (misses shelf_new))
   pub write : ended ≡ WriteFault → Rose (faults out) (faults out_new)
-  -- A command asks for the first ones of its files, in their order, each once: for all of them where its output was put. Other words ask for none.
+  -- A command asks for the first ones of its files, in their order, each once and up to one byte over its limit: for all of them where its output was put, and for
+  -- none after a journal that it refuses. Other words ask for none.
   pub asked : (command : Command) → IsCommand words command → Asks (noted shelf) (noted shelf_new) (files_of brought (plan command)) ended (Tells lines_told line_faults err err_new)
   pub unasked : HasNoCommand words → noted shelf_new ≡ noted shelf
   -- no fault is passed over, and nothing is taken from the shelf

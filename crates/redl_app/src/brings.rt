@@ -7,8 +7,10 @@ ghost use Rattle.redl_commands_shown.specs.Formats.{AreFresh, IsPlaceAsked, Leav
 ghost use Rattle.redl_commands_shown.specs.List.{listed};
 ghost use Rattle.redl_commands_shown.specs.Report.{reported};
 ghost use Rattle.redl_formats.specs.Formats.{without_named};
+ghost use Rattle.redl_inputs.specs.Asking.{files_within};
 ghost use Rattle.redl_inputs.specs.Reading.{ReadsFiles};
 ghost use Rattle.redl_inputs.specs.Views.{result_view};
+ghost use Rattle.redl_io.specs.Limits.{journal_bytes};
 ghost use Rattle.redl_lines.specs.Failures.{asked_view};
 ghost use Rattle.redl_outcome.specs.Brought.{Brought, brought_by};
 ghost use Rattle.redl_outcome.specs.Plans.{has_asked, plan};
@@ -76,7 +78,7 @@ pub(crate) trait Brings {
         requires utf8 { All IsUtf8 command.now.journals.items }
         requires place { place_named format_title command.now.format (formats self.old) ≡ Some place }
         requires fresh { is_fresh self.old }
-        ensures read { ReadsFiles F.told F.faults F.asked shelf.old shelf.new command.now.journals.items
+        ensures read { ReadsFiles F.told F.faults F.asked shelf.old shelf.new (files_within journal_bytes command.now.journals.items)
             (result_view writing_view result) (λ reader files. listed reader files (brought self.old).formats command.now.format command.now.locks.items command.now.journals.items (onlys_view command.now.only.items) bytes.now) }
         ensures formats { LeavesFormats (outcome_of (result_view writing_view result)).status
             (without_named format_title command.now.format (formats self.old)) (formats self.old) (formats self.new) }
@@ -94,7 +96,7 @@ pub(crate) trait Brings {
         requires utf8 { All IsUtf8 command.now.journals.items }
         requires place { place_named report_title command.now.format (reports self.old) ≡ Some place }
         requires fresh { is_fresh self.old }
-        ensures read { ReadsFiles F.told F.faults F.asked shelf.old shelf.new command.now.journals.items
+        ensures read { ReadsFiles F.told F.faults F.asked shelf.old shelf.new (files_within journal_bytes command.now.journals.items)
             (result_view writing_view result) (λ reader files. reported reader files (brought self.old).reports command.now.format command.now.by_kind command.now.locks.items command.now.journals.items bytes.now) }
         ensures reports { LeavesFormats (outcome_of (result_view writing_view result)).status
             (without_named report_title command.now.format (reports self.old)) (reports self.old) (reports self.new) }

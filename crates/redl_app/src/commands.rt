@@ -4,6 +4,7 @@ ghost use Rattle.std.specs.Prelude.{◌≡◌};
 ghost use Rattle.std.specs.Option.{option_copied};
 ghost use Rattle.redl_commands.specs.Endings.{Ends};
 ghost use Rattle.redl_commands_shown.specs.Formats.{IsPlaceAsked, LeavesFormats, without_asked};
+ghost use Rattle.redl_outcome.specs.Files.{other_files};
 ghost use Rattle.redl_outcome.specs.Plans.{IsTextFor, made_with, plan};
 ghost use Rattle.redl_lines.specs.Ends.{end_status, end_view};
 ghost use Rattle.redl_words.specs.Commands.{HasUtf8};
@@ -44,7 +45,7 @@ pub(crate) fn carry_out<'a, F: Shelf, O: Sink, B: Brings>(
     requires format { IsPlaceAsked B.format_title (plan (command_of command.now)).format (B.formats brings.old) found.places.format }
     requires report { IsPlaceAsked B.report_title (plan (command_of command.now)).report (B.reports brings.old) found.places.report }
     requires fresh { B.is_fresh brings.old }
-    ensures ends { Ends F.told F.faults F.asked shelf.old shelf.new O.told O.faults out.old out.new (plan (command_of command.now)).journals
+    ensures ends { Ends F.told F.faults F.asked shelf.old shelf.new O.told O.faults out.old out.new (other_files (plan (command_of command.now)))
         (λ reader files. made_with reader files (B.brought brings.old) (plan (command_of command.now)).makes (option_copied found.entry.text))
         (end_view result) }
     ensures formats { LeavesFormats (end_status (end_view result))

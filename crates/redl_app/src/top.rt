@@ -75,8 +75,8 @@ pub fn run<F: Shelf, O: Sink, E: Sink>(
         (F.told shelf.old) (Rose (F.faults shelf.old) (F.faults shelf.new)) }
     ensures write { result ≡ Status.WriteFault → Rose (O.faults out.old) (O.faults out.new) }
 
-    // A command asks for the first ones of its files, in their order, each once: for all of them where its output was put. The line of
-    // a read fault tells the last name. Other words ask for none.
+    // A command asks for the first ones of its files, in their order, each once and up to one byte over its limit: for all of them
+    // where its output was put. The line of a read fault or of a refused journal tells the last name. Other words ask for none.
     ensures asked { (command : CommandOf) → IsCommand words.now command → Asks (F.asked shelf.old) (F.asked shelf.new)
         (files_of (brought_by format_name text_for formats.old.items report_name report_text reports.old.items skin.now) (plan command))
         result (Tells E.told E.faults err.old err.new) }
@@ -145,8 +145,8 @@ pub(crate) fn run_by<F: Shelf, O: Sink, E: Sink, B: Brings>(
         (F.told shelf.old) (Rose (F.faults shelf.old) (F.faults shelf.new)) }
     ensures write { result ≡ Status.WriteFault → Rose (O.faults out.old) (O.faults out.new) }
 
-    // A command asks for the first ones of its files, in their order, each once: for all of them where its output was put. The line of
-    // a read fault tells the last name. Other words ask for none.
+    // A command asks for the first ones of its files, in their order, each once and up to one byte over its limit: for all of them
+    // where its output was put. The line of a read fault or of a refused journal tells the last name. Other words ask for none.
     ensures asked { (command : CommandOf) → IsCommand words.now command → Asks (F.asked shelf.old) (F.asked shelf.new)
         (files_of (B.brought brings.old) (plan command)) result (Tells E.told E.faults err.old err.new) }
     ensures unasked { HasNoCommand words.now → F.asked shelf.new ≡ F.asked shelf.old }

@@ -7,6 +7,7 @@ use Rattle.redl_inputs.specs.Readers.{Reader}
 use Rattle.redl_inputs.specs.Reading.{Reads, ReadsFiles}
 use Rattle.redl_commands.specs.Writing.{Writing}
 use Rattle.redl_io.specs.Shelf.{Files}
+use Rattle.redl_io.specs.declared.shelf.Request.{Request}
 use Rattle.redl_lines.specs.Ends.{End, written, unwritten, failed}
 use Rattle.redl_lines.specs.Failures.{Failure}
 
@@ -27,11 +28,11 @@ Finishes told faults old new (Ok writing) end =
     ⊎ ((end ≡ unwritten writing.remarks) × WritesFront told faults old new writing.bytes)
 Finishes told faults old new (Err failure) end = (end ≡ failed failure) × (told new ≡ told old) × (faults new ≡ faults old)
 
--- a call took files of these names from a shelf, in their order, made what was due or failed, and put what it made on the output
-pub record Ends {S K : Type 0} (holds : S → Option Files) (misses : S → ℕ) (asked : S → Option (List (List ℕ))) (shelf shelf_new : S) (told : K → Option (List ℕ)) (faults : K → ℕ) (out out_new : K)
-    (names : List (List ℕ)) (due : Reader → Files → Result Writing Failure) (end : End) : Type 0 where
+-- a call took these files from a shelf, in their order and within their caps, made what was due or failed, and put what it made on the output
+pub record Ends {S K : Type 0} (holds : S → Option Files) (misses : S → ℕ) (asked : S → Option (List Request)) (shelf shelf_new : S) (told : K → Option (List ℕ)) (faults : K → ℕ) (out out_new : K)
+    (wanted : List Request) (due : Reader → Files → Result Writing Failure) (end : End) : Type 0 where
   pub made : Result Writing Failure
-  pub reads : ReadsFiles holds misses asked shelf shelf_new names made due
+  pub reads : ReadsFiles holds misses asked shelf shelf_new wanted made due
   pub finishes : Finishes told faults out out_new made end
 
 -- what was due was made without files of a shelf, or memory ran out, and with this the call ended

@@ -214,7 +214,7 @@ reads_listing name_of text_of name wanted admission formats parts revisions verd
     let first = listed_first name_of _ name formats place made at listed in
     record {
       as_due = λ reader reads. listed_text name_of text_of name wanted admission made formats (rw (of_shown, of_parts, of_revisions, of_verdicts, of_details) at first);
-      never_unread = tt;
+      of_no_file = tt;
     }
 
 -- ---- a report
@@ -237,7 +237,7 @@ reads_report name_of text_of name by_kind admission reports lines place made of_
       as_due = λ reader reads.
           ap (λ one. one >>= (λ format. Ok (report_of by_kind admission format))) (named-by name_of text_of name reports)
           ∙ reported_by name_of text_of name by_kind admission made (first_named name_of name reports) (rw of_lines at first);
-      never_unread = tt;
+      of_no_file = tt;
     }
 
 -- ---- what is left of the formats

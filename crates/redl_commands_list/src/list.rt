@@ -3,9 +3,11 @@
 ghost use Rattle.std.specs.Prelude.{◌≡◌, ◌<◌, true, [], length, remove, slice_get, Some, All, IsUtf8, IfOk, if◌then◌else◌};
 ghost use Rattle.redl_commands_shown.specs.List.{listed, listing_named, part_names, session_details, session_shown, session_verdicts};
 ghost use Rattle.redl_commands_shown.specs.Formats.{AreFresh, LeavesFormats, formats_by, place_named};
+ghost use Rattle.redl_inputs.specs.Asking.{files_within};
 ghost use Rattle.redl_inputs.specs.Reading.{ReadsFiles, Reads};
 ghost use Rattle.redl_commands.specs.Views.{writing_view};
 ghost use Rattle.redl_inputs.specs.Views.{admission_view, result_view};
+ghost use Rattle.redl_io.specs.Limits.{journal_bytes};
 ghost use Rattle.redl_commands.specs.Writing.{outcome_of};
 ghost use Rattle.redl_excerpts.specs.Details.{IsDetail};
 ghost use Rattle.redl_clauses.specs.Clauses.{numbered_details};
@@ -43,7 +45,7 @@ pub fn list_package<'a, 'b, F: Shelf>(
     requires utf8 { All IsUtf8 command.now.journals.items }
     requires place { place_named format_name command.now.format formats.old.items ≡ Some place }
     requires fresh { AreFresh is_closed rows_so_far formats.old.items }
-    ensures read { ReadsFiles F.told F.faults F.asked shelf.old shelf.new command.now.journals.items
+    ensures read { ReadsFiles F.told F.faults F.asked shelf.old shelf.new (files_within journal_bytes command.now.journals.items)
         (result_view writing_view result) (λ reader files. listed reader files (formats_by format_name text_for formats.old.items) command.now.format command.now.locks.items command.now.journals.items (onlys_view command.now.only.items) bytes.now) }
     ensures formats { LeavesFormats (outcome_of (result_view writing_view result)).status
         (without_named format_name command.now.format formats.old.items) formats.old.items formats.new.items }

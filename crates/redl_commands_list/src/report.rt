@@ -5,8 +5,10 @@ ghost use Rattle.redl_commands_shown.specs.Report.{report_named, reported, sessi
 ghost use Rattle.redl_commands_shown.specs.Formats.{AreFresh, LeavesFormats, formats_by, place_named};
 ghost use Rattle.redl_commands.specs.Views.{writing_view};
 ghost use Rattle.redl_commands.specs.Writing.{outcome_of};
+ghost use Rattle.redl_inputs.specs.Asking.{files_within};
 ghost use Rattle.redl_inputs.specs.Reading.{Reads, ReadsFiles};
 ghost use Rattle.redl_inputs.specs.Views.{admission_view, result_view};
+ghost use Rattle.redl_io.specs.Limits.{journal_bytes};
 ghost use Rattle.redl_formats.specs.Formats.{IsListed, without_named};
 ghost use Rattle.redl_report.specs.Counts.{IsLine};
 
@@ -32,7 +34,7 @@ pub fn report_package<'a, 'b, F: Shelf>(
     requires utf8 { All IsUtf8 command.now.journals.items }
     requires place { place_named report_name command.now.format reports.old.items ≡ Some place }
     requires fresh { AreFresh is_ended lines_so_far reports.old.items }
-    ensures read { ReadsFiles F.told F.faults F.asked shelf.old shelf.new command.now.journals.items
+    ensures read { ReadsFiles F.told F.faults F.asked shelf.old shelf.new (files_within journal_bytes command.now.journals.items)
         (result_view writing_view result) (λ reader files. reported reader files (formats_by report_name report_text reports.old.items) command.now.format command.now.by_kind command.now.locks.items command.now.journals.items bytes.now) }
     ensures reports { LeavesFormats (outcome_of (result_view writing_view result)).status
         (without_named report_name command.now.format reports.old.items) reports.old.items reports.new.items }

@@ -3,7 +3,7 @@ use Rattle.std.proofs.Common.{◌≡◌, ◌++◌, ℕ, List, [], length, map, t
 use Rattle.std.specs.Str.{bytes_eq}
 use Rattle.redl_inputs.proofs.PackageLaws.{sound_of}
 use Rattle.redl_commands.specs.Join.{book_text}
-use Rattle.redl_commands_shown.specs.Resume.{left_by, of_second, resumption, second_failure, sitting_on, text_under}
+use Rattle.redl_commands_shown.specs.Resume.{left_by, of_second, resumption, second_cause, second_failure, sitting_on, text_under}
 use Rattle.redl_commands.specs.Settle.{passed_text}
 use Rattle.redl_commands.specs.Write.{left_text}
 use Rattle.redl_commands_resume.specs.Inside.FirstSittings.{IsFirst, IsReadAgain, SecondSitting, joined_by, resumption_of}
@@ -14,14 +14,16 @@ use Rattle.redl_index.specs.Numbers.{numbered_package, package_revisions}
 use Rattle.redl_inputs.proofs.ReadLaws.{always, fails_alone, reads_stops, reads_then, reads_then_takes, reads_when}
 use Rattle.redl_inputs.proofs.StepLaws.{both_ok, same_ok}
 use Rattle.redl_inputs.specs.Admission.{Admission}
+use Rattle.redl_inputs.specs.Asking.{files_within}
 use Rattle.redl_inputs.specs.Journals.{DocumentId}
 use Rattle.redl_inputs.specs.Packages.{package_in, shaped, shaped_unless, sound, tree_in}
 use Rattle.redl_inputs.specs.Readers.{Reader, IsReader}
-use Rattle.redl_inputs.specs.Reading.{Reads, ReadsFiles}
+use Rattle.redl_inputs.specs.Reading.{IsOfNoFile, Reads, ReadsFiles}
 use Rattle.redl_inputs.specs.Steps.{◌>>=◌}
 use Rattle.redl_io.specs.Shelf.{Files}
+use Rattle.redl_io.specs.declared.shelf.Request.{Request}
 use Rattle.redl_journal.specs.declared.entry.Entry.{Entry}
-use Rattle.redl_lines.specs.Failures.{Failure, caused, differ, no_memory, not_written, unread}
+use Rattle.redl_lines.specs.Failures.{Cause, Failure, caused, differ, no_memory, no_package, not_written, unread}
 use Rattle.redl_lines.specs.Refused.{RefusedEntries}
 use Rattle.redl_opc.specs.Shape.{refusal}
 use Rattle.redl_opc.specs.declared.error.OpcError.{OpcError}
@@ -41,24 +43,29 @@ steps_in_one (Ok x) next last = refl
 steps_in_one (Err failure) next last = refl
 
 -- a step that went well, and then two more
-pub reads_then_in : {S X Y Z : Type 0} {told : S → Option Files} {faults : S → ℕ} {asked : S → Option (List (List ℕ))} {old mid new : S} {names more : List (List ℕ)} {x : X} {made : Result Z Failure}
+pub reads_then_in : {S X Y Z : Type 0} {told : S → Option Files} {faults : S → ℕ} {asked : S → Option (List Request)} {old mid new : S} {wanted more : List Request} {x : X} {made : Result Z Failure}
     {due : Reader → Files → Result X Failure} (next : X → Reader → Files → Result Y Failure) (last : Y → Result Z Failure)
-    → ReadsFiles told faults asked old mid names (Ok x) due → ReadsFiles told faults asked mid new more made (λ reader files. next x reader files >>= last)
-    → ReadsFiles told faults asked old new (names ++ more) made (λ reader files. (due reader files >>= (λ y. next y reader files)) >>= last)
-reads_then_in {told = told} {old = old} {names = names} {more = more} {due = due} next last first rest =
+    → ReadsFiles told faults asked old mid wanted (Ok x) due → ReadsFiles told faults asked mid new more made (λ reader files. next x reader files >>= last)
+    → ReadsFiles told faults asked old new (wanted ++ more) made (λ reader files. (due reader files >>= (λ y. next y reader files)) >>= last)
+reads_then_in {told = told} {old = old} {wanted = wanted} {more = more} {due = due} next last first rest =
     reads_when (λ reader files. (due reader files >>= (λ y. next y reader files)) >>= last)
-    (always (told old) (names ++ more) (λ files reader is. steps_in_one (due reader files) (λ y. next y reader files) last))
+    (always (told old) (wanted ++ more) (λ files reader is. steps_in_one (due reader files) (λ y. next y reader files) last))
     (reads_then (λ y reader files. next y reader files >>= last) first rest)
 
 -- ---- the second package
 
+-- a second package refuses no journal where a package refuses none
+second_refuses : (X : Type 0) (cause : Cause) → IsOfNoFile {Y = X} None (Err (caused cause)) → IsOfNoFile {Y = X} None (Err (caused (second_cause cause)))
+second_refuses X (no_package fault) of = tt
+second_refuses X cause of = of
+
 pub reads_second : {X : Type 0} (failure : Failure) (due : Reader → Result X Failure) → Reads {Y = X} (Err failure) due → Reads {Y = X} (Err (second_failure failure)) (λ reader. of_second (due reader))
-reads_second (caused cause) due step = record { as_due = λ reader is. ap of_second (step.as_due reader is); never_unread = tt }
-reads_second (unread name) due step = absurd step.never_unread
-reads_second no_memory due step = record { as_due = λ reader is. tt; never_unread = tt }
+reads_second {X} (caused cause) due step = record { as_due = λ reader is. ap of_second (step.as_due reader is); of_no_file = second_refuses X cause step.of_no_file }
+reads_second (unread name) due step = absurd step.of_no_file
+reads_second no_memory due step = record { as_due = λ reader is. tt; of_no_file = tt }
 
 pub reads_second_ok : {X : Type 0} (x : X) (due : Reader → Result X Failure) → Reads (Ok x) due → Reads (Ok x) (λ reader. of_second (due reader))
-reads_second_ok x due step = record { as_due = λ reader is. ap of_second (step.as_due reader is); never_unread = tt }
+reads_second_ok x due step = record { as_due = λ reader is. ap of_second (step.as_due reader is); of_no_file = tt }
 
 -- ---- whether it is what was left
 
@@ -67,24 +74,24 @@ is_not_left : (state-text whole : List ℕ) → bytes_eq whole state-text ≡ fa
 is_not_left state-text whole e = rw e refl
 
 -- another package is refused
-pub reads_other : {S : Type 0} {told : S → Option Files} {faults : S → ℕ} {asked : S → Option (List (List ℕ))} (shelf : S) (one : Admission) (left : ℕ) (whole text_ : List ℕ) (journals : List (List ℕ))
+pub reads_other : {S : Type 0} {told : S → Option Files} {faults : S → ℕ} {asked : S → Option (List Request)} (shelf : S) (one : Admission) (left : ℕ) (whole text_ : List ℕ) (journals : List (List ℕ))
     → text_ ≡ left_text one.state → bytes_eq whole text_ ≡ false
-    → ReadsFiles {Y = Writing} told faults asked shelf shelf journals (Err (caused not_written))
+    → ReadsFiles {Y = Writing} told faults asked shelf shelf (files_within left journals) (Err (caused not_written))
     (λ reader files. (left_by one.state whole >>= (λ w. sitting_on reader files left journals w)) >>= (λ two. resumption one two.0))
 reads_other shelf one left whole text_ journals same other =
-    fails_alone shelf journals tt
+    fails_alone shelf (files_within left journals) tt
     (λ reader files is.
     ap (λ (made : Result (List ℕ) Failure). (made >>= (λ w. sitting_on reader files left journals w)) >>= (λ two. resumption one two.0))
     (is_not_left (left_text one.state) whole (ap (bytes_eq whole) (sym same) ∙ other)))
 
 -- what was left is gone on with
-pub reads_left : {S : Type 0} {told : S → Option Files} {faults : S → ℕ} {asked : S → Option (List (List ℕ))} {old new : S} {made : Result Writing Failure} (one : Admission) (left : ℕ) (whole text_ : List ℕ) (journals : List (List ℕ))
+pub reads_left : {S : Type 0} {told : S → Option Files} {faults : S → ℕ} {asked : S → Option (List Request)} {old new : S} {made : Result Writing Failure} (one : Admission) (left : ℕ) (whole text_ : List ℕ) (journals : List (List ℕ))
     → text_ ≡ left_text one.state → bytes_eq whole text_ ≡ true
-    → ReadsFiles told faults asked old new journals made (λ reader files. sitting_on reader files left journals whole >>= (λ two. resumption one two.0))
-    → ReadsFiles told faults asked old new journals made (λ reader files. (left_by one.state whole >>= (λ w. sitting_on reader files left journals w)) >>= (λ two. resumption one two.0))
+    → ReadsFiles told faults asked old new (files_within left journals) made (λ reader files. sitting_on reader files left journals whole >>= (λ two. resumption one two.0))
+    → ReadsFiles told faults asked old new (files_within left journals) made (λ reader files. (left_by one.state whole >>= (λ w. sitting_on reader files left journals w)) >>= (λ two. resumption one two.0))
 reads_left {told = told} {old = old} one left whole text_ journals same equal step =
     reads_when (λ reader files. (left_by one.state whole >>= (λ w. sitting_on reader files left journals w)) >>= (λ two. resumption one two.0))
-    (always (told old) journals (λ files reader is.
+    (always (told old) (files_within left journals) (λ files reader is.
     ap (λ (made : Result (List ℕ) Failure). (made >>= (λ w. sitting_on reader files left journals w)) >>= (λ two. resumption one two.0)) here)) step
   where
     here : left_by one.state whole ≡ Ok whole
@@ -95,12 +102,12 @@ reads_left {told = told} {old = old} one left whole text_ journals same equal st
 -- what was read once cannot fail but for memory
 pub fails_by_memory : {X Y : Type 0} (failure : Failure) (due : Reader → Result X Failure) (later : Reader → Result Y Failure) (x : X) → Reads {Y = X} (Err failure) due
     → ((reader : Reader) → IsReader reader → due reader ≡ Ok x) → Reads {Y = Y} (Err failure) later
-fails_by_memory (caused cause) due later x step read = record { as_due = λ reader is. absurd (never (sym (step.as_due reader is) ∙ read reader is)); never_unread = tt }
+fails_by_memory (caused cause) due later x step read = record { as_due = λ reader is. absurd (never (sym (step.as_due reader is) ∙ read reader is)); of_no_file = step.of_no_file }
   where
     never : (let r : Result _ Failure = Err (caused cause) in r) ≡ Ok x → ⊥
     never e = cc e
-fails_by_memory (unread name) due later x step read = absurd step.never_unread
-fails_by_memory no_memory due later x step read = record { as_due = λ reader is. tt; never_unread = tt }
+fails_by_memory (unread name) due later x step read = absurd step.of_no_file
+fails_by_memory no_memory due later x step read = record { as_due = λ reader is. tt; of_no_file = tt }
 
 shape_of : (error : Option OpcError) (nodes made : Nodes) → shaped_unless error nodes ≡ Ok made → (error ≡ None) × (made ≡ nodes)
 shape_of None nodes made is = (refl, sym (same_ok is))
@@ -160,7 +167,7 @@ written_with document refused second = record { bytes = book_text document secon
 -- the sittings come to different texts
 pub conclude_differs : (whole : List ℕ) (one : Admission) (again : IsReadAgain whole one) (second : SecondSitting) (under : List ℕ)
     → Reads (Ok under) (text_due whole second.book) → bytes_eq under second.text ≡ false → Reads {Y = Writing} (Err (caused differ)) (λ reader. resumption_of one second)
-conclude_differs whole one again second under step other = record { as_due = λ reader is. due reader is; never_unread = tt }
+conclude_differs whole one again second under step other = record { as_due = λ reader is. due reader is; of_no_file = tt }
   where
     due : (reader : Reader) → IsReader reader → resumption_of one second ≡ Err (caused differ)
     due reader is =
@@ -171,7 +178,7 @@ conclude_differs whole one again second under step other = record { as_due = λ 
 pub conclude_ok : (whole : List ℕ) (one : Admission) (again : IsReadAgain whole one) (document : DocumentId) (refused : RefusedEntries) (second : SecondSitting) (under : List ℕ)
     → document ≡ one.document → refused ≡ one.remarks.refused → Reads (Ok under) (text_due whole second.book) → bytes_eq under second.text ≡ true
     → Reads (Ok (written_with document refused second)) (λ reader. resumption_of one second)
-conclude_ok whole one again document refused second under of_document were step same = record { as_due = λ reader is. due reader is; never_unread = tt }
+conclude_ok whole one again document refused second under of_document were step same = record { as_due = λ reader is. due reader is; of_no_file = tt }
   where
     due : (reader : Reader) → IsReader reader → resumption_of one second ≡ Ok (written_with document refused second)
     due reader is =
@@ -200,21 +207,21 @@ by_sittings : (one : Admission) (first : First) → IsFirst one first → (made 
 by_sittings one first is (Ok two) = sym (resumption_is one two.0 first is)
 by_sittings one first is (Err failure) = refl
 
-pub concludes_all : {S : Type 0} {told : S → Option Files} {faults : S → ℕ} {asked : S → Option (List (List ℕ))} {old new : S} {second : SecondSitting} {made : Result Writing Failure}
+pub concludes_all : {S : Type 0} {told : S → Option Files} {faults : S → ℕ} {asked : S → Option (List Request)} {old new : S} {second : SecondSitting} {made : Result Writing Failure}
     (one : Admission) (first : First) (left : ℕ) (journals : List (List ℕ)) (whole : List ℕ) → IsFirst one first
-    → ReadsFiles told faults asked old new journals (Ok second) (λ reader files. sitting_on reader files left journals whole >>= (λ two. Ok (joined_by first.decided (map (λ part. part.items) first.numbers.items) two.0)))
+    → ReadsFiles told faults asked old new (files_within left journals) (Ok second) (λ reader files. sitting_on reader files left journals whole >>= (λ two. Ok (joined_by first.decided (map (λ part. part.items) first.numbers.items) two.0)))
     → Reads made (λ reader. resumption_of one second)
-    → ReadsFiles told faults asked old new journals made (λ reader files. sitting_on reader files left journals whole >>= (λ two. resumption one two.0))
+    → ReadsFiles told faults asked old new (files_within left journals) made (λ reader files. sitting_on reader files left journals whole >>= (λ two. resumption one two.0))
 concludes_all {told = told} {old = old} one first left journals whole is step last =
     reads_when (λ reader files. sitting_on reader files left journals whole >>= (λ two. resumption one two.0))
-    (always (told old) journals (λ files reader reads. by_sittings one first is (sitting_on reader files left journals whole)))
+    (always (told old) (files_within left journals) (λ files reader reads. by_sittings one first is (sitting_on reader files left journals whole)))
     (reads_then_takes (λ second reader. resumption_of one second) step last)
 
-pub stops_all : {S : Type 0} {told : S → Option Files} {faults : S → ℕ} {asked : S → Option (List (List ℕ))} {old new : S} {failure : Failure}
+pub stops_all : {S : Type 0} {told : S → Option Files} {faults : S → ℕ} {asked : S → Option (List Request)} {old new : S} {failure : Failure}
     (one : Admission) (first : First) (left : ℕ) (journals : List (List ℕ)) (whole : List ℕ) → IsFirst one first
-    → ReadsFiles {Y = SecondSitting} told faults asked old new journals (Err failure) (λ reader files. sitting_on reader files left journals whole >>= (λ two. Ok (joined_by first.decided (map (λ part. part.items) first.numbers.items) two.0)))
-    → ReadsFiles {Y = Writing} told faults asked old new journals (Err failure) (λ reader files. sitting_on reader files left journals whole >>= (λ two. resumption one two.0))
+    → ReadsFiles {Y = SecondSitting} told faults asked old new (files_within left journals) (Err failure) (λ reader files. sitting_on reader files left journals whole >>= (λ two. Ok (joined_by first.decided (map (λ part. part.items) first.numbers.items) two.0)))
+    → ReadsFiles {Y = Writing} told faults asked old new (files_within left journals) (Err failure) (λ reader files. sitting_on reader files left journals whole >>= (λ two. resumption one two.0))
 stops_all {told = told} {old = old} one first left journals whole is step =
     reads_when (λ reader files. sitting_on reader files left journals whole >>= (λ two. resumption one two.0))
-    (always (told old) journals (λ files reader reads. by_sittings one first is (sitting_on reader files left journals whole)))
+    (always (told old) (files_within left journals) (λ files reader reads. by_sittings one first is (sitting_on reader files left journals whole)))
     (reads_stops {X = SecondSitting} {Y = Writing} (λ second reader files. resumption_of one second) step)

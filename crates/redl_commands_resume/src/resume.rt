@@ -20,8 +20,10 @@ ghost use Rattle.redl_commands.specs.Views.{writing_view};
 ghost use Rattle.redl_index.specs.Numbers.{package_revisions};
 ghost use Rattle.redl_inputs.specs.Admission.{Admission};
 ghost use Rattle.redl_inputs.specs.Packages.{package_in};
+ghost use Rattle.redl_inputs.specs.Asking.{file_within, files_within};
 ghost use Rattle.redl_inputs.specs.Reading.{Reads, ReadsFiles};
 ghost use Rattle.redl_inputs.specs.Views.{admission_view, document_view, result_view};
+ghost use Rattle.redl_io.specs.Limits.{journal_bytes, package_bytes};
 ghost use Rattle.redl_lines.specs.Failures.{cause_view, failure_view};
 ghost use Rattle.redl_rules.specs.Attributes.{broken_rule};
 ghost use Rattle.redl_session.specs.Says.{says_of};
@@ -58,7 +60,7 @@ pub fn resume_package<'a, 'b, F: Shelf>(
     requires second { IsUtf8 command.now.second }
     requires firsts { All IsUtf8 command.now.firsts.items }
     requires seconds { All IsUtf8 command.now.journals.items }
-    ensures { ReadsFiles F.told F.faults F.asked shelf.old shelf.new (command.now.firsts.items ++ command.now.second ∷ command.now.journals.items)
+    ensures { ReadsFiles F.told F.faults F.asked shelf.old shelf.new (files_within journal_bytes command.now.firsts.items ++ file_within package_bytes command.now.second ∷ files_within journal_bytes command.now.journals.items)
         (result_view writing_view result) (λ reader files. resumed reader files command.now.second command.now.firsts.items command.now.journals.items bytes.now) }
 {
     let package = read_package(alloc, bytes)?;
@@ -164,7 +166,7 @@ fn resume_on<'a, 'b, F: Shelf>(
     requires utf8 { All IsUtf8 second.journals.now }
     requires left { second.left < 2 ^ 32 }
     ensures { (one : Admission) → IsFirst one first → IsReadAgain bytes.now one → text.items ≡ left_text one.state
-        → ReadsFiles F.told F.faults F.asked shelf.old shelf.new (second.entry.package.now ∷ second.entry.journals.now) (result_view writing_view result)
+        → ReadsFiles F.told F.faults F.asked shelf.old shelf.new (file_within package_bytes second.entry.package.now ∷ files_within second.entry.left second.entry.journals.now) (result_view writing_view result)
         (λ reader files. resumed_with reader files second.entry.package.now second.entry.journals.now (one, second.entry.left)) }
 {
     let whole = fetch_package(alloc, second.package, shelf)?;
@@ -193,7 +195,7 @@ fn resume_with<'a, 'b, F: Shelf>(
     requires utf8 { All IsUtf8 second.journals.now }
     requires left { second.left < 2 ^ 32 }
     ensures { (one : Admission) → IsFirst one first → IsReadAgain bytes.now one
-        → ReadsFiles F.told F.faults F.asked shelf.old shelf.new second.entry.journals.now (result_view writing_view result)
+        → ReadsFiles F.told F.faults F.asked shelf.old shelf.new (files_within second.entry.left second.entry.journals.now) (result_view writing_view result)
         (λ reader files. resumed_on reader files second.entry.left second.entry.journals.now whole.items one) }
 {
     let First {
@@ -217,7 +219,7 @@ fn take_second<'a, F: Shelf>(
 ) -> Result<Joined, Failure<'a>>
     requires utf8 { All IsUtf8 second.journals.now }
     requires left { second.left < 2 ^ 32 }
-    ensures { ReadsFiles F.told F.faults F.asked shelf.old shelf.new second.entry.journals.now (result_view joined_view result)
+    ensures { ReadsFiles F.told F.faults F.asked shelf.old shelf.new (files_within second.entry.left second.entry.journals.now) (result_view joined_view result)
         (λ reader files. second_joined reader files second.entry.left second.entry.journals.now whole.items decided (map (λ part. part.items) numbers.now)) }
 {
     let package = read_second(alloc, &whole)?;

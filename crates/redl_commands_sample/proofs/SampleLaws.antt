@@ -46,5 +46,5 @@ pub sampled_within : (number : ℕ) (made : Result Writing Failure) → number �
     → Reads made (λ reader. sampled reader number)
 sampled_within number made few step = record {
   as_due = λ reader is. subst (λ due. IsMade made due ⊥) (sym (cond-false (nat_lt sample_paragraphs number) _ _ (le-ltb sample_paragraphs number few))) (step.as_due reader is);
-  never_unread = step.never_unread;
+  of_no_file = step.of_no_file;
 }

@@ -30,7 +30,7 @@ plain_text_of say nodes made count numbered counted =
 pub reads_through : {Y : Type 0} {y : Y} {made : Result Y Failure} {due : Reader → Result Y Failure} → Reads (Ok y) due → Reads made (λ _. Ok y) → Reads made due
 reads_through {made} first rest = record {
   as_due = λ reader is. subst (λ d. IsMade made d ⊥) (sym (first.as_due reader is)) (rest.as_due reader is);
-  never_unread = rest.never_unread;
+  of_no_file = rest.of_no_file;
 }
 
 finishes_after : {K T : Type 0} (told : K → Option (List ℕ)) (faults : K → ℕ) (old new : K) (text : List ℕ) (r : Result T Failed) (end : End) → end ≡ end_after r
@@ -45,7 +45,7 @@ pub ends_after : {K T : Type 0} {told : K → Option (List ℕ)} {faults : K →
     → EndsAlone told faults old new (λ _. Ok (only_bytes text)) end
 ends_after {told} {faults} {old} {new} {end} text r is all front cause = record {
   made = Ok (only_bytes text);
-  reads = record { as_due = λ reader reads. refl; never_unread = tt };
+  reads = record { as_due = λ reader reads. refl; of_no_file = tt };
   finishes = finishes_after told faults old new text r end is all front cause;
 }
 

@@ -6,7 +6,9 @@ ghost use Rattle.std.specs.Prelude.{◌≡◌, ℕ, Ok, All, IfOk, IsUtf8, OnErr
 ghost use Rattle.std.specs.Io.KnownBytes.{append_known};
 ghost use Rattle.redl_commands_shown.specs.Page.{is_locked, page_of, paged, session_said, shown_of};
 ghost use Rattle.redl_commands.specs.Endings.{Ends, EndsAlone, Finishes};
+ghost use Rattle.redl_inputs.specs.Asking.{files_within};
 ghost use Rattle.redl_inputs.specs.Views.{admission_view};
+ghost use Rattle.redl_io.specs.Limits.{journal_bytes};
 ghost use Rattle.redl_io.specs.Sink.{CountsPut, GrowsByFront};
 ghost use Rattle.redl_join.specs.LastWords.{last_words, words_on};
 ghost use Rattle.redl_lines.specs.Ends.{end_view};
@@ -37,7 +39,7 @@ pub fn put_page<'a, F: Shelf, O: Sink>(
     out: &mut O,
 ) -> End<'a>
     requires { All IsUtf8 command.now.journals.items }
-    ensures { Ends F.told F.faults F.asked shelf.old shelf.new O.told O.faults out.old out.new command.now.journals.items
+    ensures { Ends F.told F.faults F.asked shelf.old shelf.new O.told O.faults out.old out.new (files_within journal_bytes command.now.journals.items)
         (λ reader files. paged reader files (skin_view skin.now) (heading_with command.now.title command.now.rank) command.now.locks.items command.now.journals.items bytes.now)
         (end_view result) }
 {

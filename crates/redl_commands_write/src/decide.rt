@@ -2,9 +2,11 @@
 
 ghost use Rattle.std.specs.Prelude.{◌≡◌, ◌≤◌, All, IsUtf8};
 ghost use Rattle.redl_commands.specs.Decide.{book_written, chosen_journal, with_choices};
+ghost use Rattle.redl_inputs.specs.Asking.{files_within};
 ghost use Rattle.redl_inputs.specs.Reading.{Reads, ReadsFiles};
 ghost use Rattle.redl_commands.specs.Views.{writing_view};
 ghost use Rattle.redl_inputs.specs.Views.{admission_view, result_view};
+ghost use Rattle.redl_io.specs.Limits.{journal_bytes};
 ghost use Rattle.redl_journal.specs.Journals.{IsReviewer};
 ghost use Rattle.redl_words.specs.Views.{choices_view};
 
@@ -30,7 +32,7 @@ pub fn decide_package<'a, 'b, F: Shelf>(
     requires reviewer { IsReviewer command.now.reviewer }
     requires rank { command.now.rank ≤ 9 }
     requires journals { All IsUtf8 command.now.journals.items }
-    ensures { ReadsFiles F.told F.faults F.asked shelf.old shelf.new command.now.journals.items
+    ensures { ReadsFiles F.told F.faults F.asked shelf.old shelf.new (files_within journal_bytes command.now.journals.items)
         (result_view writing_view result) (λ reader files. chosen_journal reader files command.now.reviewer command.now.rank command.now.locks.items command.now.journals.items (choices_view command.now.choices.items) bytes.now) }
 {
     let mut admitted = open(alloc, &command.locks, &command.journals, bytes, shelf)?;

@@ -2,6 +2,7 @@
 
 ghost use Rattle.std.specs.Prelude.{◌≡◌, ◌≢◌, ◌∷◌, [], All, IsUtf8, IfOk};
 ghost use Rattle.redl_commands.specs.Join.{document_in, joined};
+ghost use Rattle.redl_inputs.specs.Asking.{files_within};
 ghost use Rattle.redl_inputs.specs.Reading.{ReadsFiles};
 ghost use Rattle.redl_commands.specs.Views.{writing_view};
 ghost use Rattle.redl_inputs.specs.Views.{document_view, result_view};
@@ -26,7 +27,7 @@ pub fn join_files<'a, 'b, F: Shelf>(
 ) -> Result<Writing<'b>, Failure<'a>>
     requires utf8 { All IsUtf8 journals.now }
     requires some { journals.now ≢ [] }
-    ensures { ReadsFiles F.told F.faults F.asked shelf.old shelf.new journals.now
+    ensures { ReadsFiles F.told F.faults F.asked shelf.old shelf.new (files_within journal_bytes journals.now)
         (result_view writing_view result) (λ reader files. joined reader files journal_bytes journals.now) }
 {
     match journals {
@@ -43,7 +44,7 @@ fn join_to<'a, 'b, F: Shelf>(
     shelf: &mut F,
 ) -> Result<Writing<'b>, Failure<'a>>
     requires { All IsUtf8 others.now }
-    ensures { ReadsFiles F.told F.faults F.asked shelf.old shelf.new (name.now ∷ others.now)
+    ensures { ReadsFiles F.told F.faults F.asked shelf.old shelf.new (files_within journal_bytes (name.now ∷ others.now))
         (result_view writing_view result) (λ reader files. joined reader files journal_bytes (name.now ∷ others.now)) }
 {
     let (journal, size) = read_first(alloc, name, JOURNALS_LIMIT, shelf)?;

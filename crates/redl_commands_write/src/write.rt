@@ -2,9 +2,11 @@
 
 ghost use Rattle.std.specs.Prelude.{◌≡◌, All, IsUtf8, IfOk};
 ghost use Rattle.redl_commands.specs.Write.{written, resolved};
+ghost use Rattle.redl_inputs.specs.Asking.{files_within};
 ghost use Rattle.redl_inputs.specs.Reading.{ReadsFiles};
 ghost use Rattle.redl_commands.specs.Views.{writing_view};
 ghost use Rattle.redl_inputs.specs.Views.{admission_view, result_view};
+ghost use Rattle.redl_io.specs.Limits.{journal_bytes};
 
 use crate::gone::{locked_numbers, note_gone};
 use redl_commands::Writing;
@@ -23,7 +25,7 @@ pub fn write_package<'a, 'b, F: Shelf>(
     shelf: &mut F,
 ) -> Result<Writing<'b>, Failure<'a>>
     requires { All IsUtf8 journals.now }
-    ensures { ReadsFiles F.told F.faults F.asked shelf.old shelf.new journals.now
+    ensures { ReadsFiles F.told F.faults F.asked shelf.old shelf.new (files_within journal_bytes journals.now)
         (result_view writing_view result) (λ reader files. written reader files locks.now journals.now bytes.now) }
 {
     let admitted = open(alloc, locks, journals, bytes, shelf)?;

@@ -9,12 +9,16 @@ use Rattle.redl_commands_shown.specs.Formats.{Format, found_format, has_format, 
 use Rattle.redl_commands.specs.Writing.{Writing}
 use Rattle.redl_inputs.proofs.ReadLaws.{fails_alone}
 use Rattle.redl_inputs.specs.Readers.{Reader}
+use Rattle.redl_inputs.specs.Reading.{IsOfNoFile}
 use Rattle.redl_inputs.specs.Steps.{◌>>=◌}
 use Rattle.redl_io.specs.Shelf.{Files}
+use Rattle.redl_io.specs.declared.shelf.Request.{Request}
 use Rattle.redl_lines.proofs.MisuseLaws.{end_is_no_usage}
 use Rattle.redl_lines.specs.Ends.{End, end_status, end_view, failed}
-use Rattle.redl_lines.specs.Failures.{Cause, Failure, caused, failure_status, no_format}
+use Rattle.redl_lines.specs.Failures.{Cause, Failure, caused, failure_status, misuse_cause, no_format}
 use Rattle.redl_lines.specs.declared.end.End.{End as DeclaredEnd}
+use Rattle.redl_lines.specs.declared.misuse.Misuse.{Misuse}
+use Rattle.redl_lines.specs.declared.misuse.Misuse.TheVariants as misuse
 use Rattle.redl_lines.specs.declared.status.Status.TheVariants as status
 use Rattle.redl_formats.specs.Formats.{first_named}
 
@@ -52,19 +56,24 @@ has_its_format brought plan end there = (λ usage. absurd (end_is_no_usage end u
 
 -- ---- how a call ends
 
+-- misused words refuse no journal
+pub misuse_of_none : (words : Misuse) → IsOfNoFile {Y = Writing} None (Err (caused (misuse_cause words)))
+misuse_of_none misuse.Words = tt
+misuse_of_none (misuse.NoFormat name) = tt
+
 -- a call ends before it asks for a file
-pub ends_at_once : {S K : Type 0} {holds : S → Option Files} {misses : S → ℕ} {asked : S → Option (List (List ℕ))} (shelf : S) {told : K → Option (List ℕ)} {faults : K → ℕ} (out : K)
-    (there : Result (Unit {0}) Failure) (names : List (List ℕ)) (next : Reader → Files → Result Writing Failure) (cause : Cause) → there ≡ Err (caused cause)
-    → Ends holds misses asked shelf shelf told faults out out (where_ok there names) (λ reader files. there >>= (λ found. next reader files)) (failed (caused cause))
-ends_at_once shelf out there names next cause is = rw is (record {
+pub ends_at_once : {S K : Type 0} {holds : S → Option Files} {misses : S → ℕ} {asked : S → Option (List Request)} (shelf : S) {told : K → Option (List ℕ)} {faults : K → ℕ} (out : K)
+    (there : Result (Unit {0}) Failure) (wanted : List Request) (next : Reader → Files → Result Writing Failure) (cause : Cause) → IsOfNoFile {Y = Writing} None (Err (caused cause)) → there ≡ Err (caused cause)
+    → Ends holds misses asked shelf shelf told faults out out (where_ok there wanted) (λ reader files. there >>= (λ found. next reader files)) (failed (caused cause))
+ends_at_once shelf out there wanted next cause of is = rw is (record {
   made = Err (caused cause);
-  reads = fails_alone shelf [] tt (λ reader files reads. refl);
+  reads = fails_alone shelf [] of (λ reader files reads. refl);
   finishes = (refl, refl, refl);
 })
 
 -- the format is there, and the call goes on
-pub ends_after : {S K : Type 0} {holds : S → Option Files} {misses : S → ℕ} {asked : S → Option (List (List ℕ))} {shelf shelf_new : S} {told : K → Option (List ℕ)} {faults : K → ℕ} {out out_new : K}
-    (end : End) (there : Result (Unit {0}) Failure) (names : List (List ℕ)) (next : Reader → Files → Result Writing Failure) (found : Unit {0}) → there ≡ Ok found
-    → Ends holds misses asked shelf shelf_new told faults out out_new names next end
-    → Ends holds misses asked shelf shelf_new told faults out out_new (where_ok there names) (λ reader files. there >>= (λ one. next reader files)) end
-ends_after end there names next found is ends = rw is ends
+pub ends_after : {S K : Type 0} {holds : S → Option Files} {misses : S → ℕ} {asked : S → Option (List Request)} {shelf shelf_new : S} {told : K → Option (List ℕ)} {faults : K → ℕ} {out out_new : K}
+    (end : End) (there : Result (Unit {0}) Failure) (wanted : List Request) (next : Reader → Files → Result Writing Failure) (found : Unit {0}) → there ≡ Ok found
+    → Ends holds misses asked shelf shelf_new told faults out out_new wanted next end
+    → Ends holds misses asked shelf shelf_new told faults out out_new (where_ok there wanted) (λ reader files. there >>= (λ one. next reader files)) end
+ends_after end there wanted next found is ends = rw is ends

@@ -17,7 +17,8 @@ use Rattle.redl_lines.specs.Lines.{failure_line, unwritten_line}
 use Rattle.redl_lines.specs.declared.status.Status.{Status}
 use Rattle.redl_lines.specs.declared.status.Status.TheVariants as status
 use Rattle.redl_io.specs.Faults.{Rose}
-use Rattle.redl_io.specs.Shelf.{Files}
+use Rattle.redl_io.specs.Shelf.{Files, names_of}
+use Rattle.redl_io.specs.declared.shelf.Request.{Request}
 use Rattle.redl_io.specs.Sink.{GrowsByFront}
 use Rattle.redl_lines.specs.Refused.{RefusedEntries}
 
@@ -100,11 +101,11 @@ lines_by told faults old new (Err failure) end due words brought names shelf fai
 -- ---- whatever the shelf tells
 
 -- where the words ask for no file, none is named
-abbrev pub NamesWhatIsAsked : List (List ℕ) → Brought → List (List ℕ) → Type 0
-NamesWhatIsAsked words brought names = (reader : Reader) → IsReader reader → asked_by brought (reader.command words) ≡ [] → names ≡ []
+abbrev pub NamesWhatIsAsked : List (List ℕ) → Brought → List Request → Type 0
+NamesWhatIsAsked words brought wanted = (reader : Reader) → IsReader reader → asked_by brought (reader.command words) ≡ [] → wanted ≡ []
 
 -- who asks for no file may be given any
-may_hold : {shelf : Option Files} {files : Files} {names other : List (List ℕ)} → (other ≡ [] → names ≡ []) → MayHold shelf other files → MayHold shelf names files
+may_hold : {shelf : Option Files} {files : Files} {wanted other : List Request} → (other ≡ [] → wanted ≡ []) → MayHold shelf other files → MayHold shelf wanted files
 may_hold none (inl tells) = inl tells
 may_hold none (inr nothing) = inr (none nothing)
 
@@ -113,32 +114,32 @@ abbrev pub due_by : List (List ℕ) → Brought → Reader → Files → Result 
 due_by words brought reader files = writing_of reader files brought (reader.command words)
 
 -- the exit status is the one that the outcome asks for, or tells which fault there was
-pub answers : (brought : Brought) {S K : Type 0} {holds : S → Option Files} {misses : S → ℕ} {asked : S → Option (List (List ℕ))} {shelf shelf_new : S} {told : K → Option (List ℕ)} {faults : K → ℕ} {out out_new : K}
-    {words : List (List ℕ)} {names : List (List ℕ)} {end : End}
-    → NamesWhatIsAsked words brought names → Ends holds misses asked shelf shelf_new told faults out out_new names (due_by words brought) end
+pub answers : (brought : Brought) {S K : Type 0} {holds : S → Option Files} {misses : S → ℕ} {asked : S → Option (List Request)} {shelf shelf_new : S} {told : K → Option (List ℕ)} {faults : K → ℕ} {out out_new : K}
+    {words : List (List ℕ)} {wanted : List Request} {end : End}
+    → NamesWhatIsAsked words brought wanted → Ends holds misses asked shelf shelf_new told faults out out_new wanted (due_by words brought) end
     → OfOutcome (holds shelf) words brought (λ o. IsAnswer (end_status end) o (Rose (misses shelf) (misses shelf_new)) (Rose (faults out) (faults out_new)))
 answers brought {misses = misses} {shelf = shelf} {shelf_new = shelf_new} {told = told} {faults = faults} {out = out} {out_new = out_new} {words = words} {end = end} asked ends =
     λ files reader is may. answer_by told faults out out_new ends.made end (due_by words brought reader files) (Rose (misses shelf) (misses shelf_new)) ends.finishes
     (ends.reads.as_due files (may_hold (asked reader is) may) reader is)
 
 -- what went to the output is what the outcome asks for at this exit status
-pub writes : (brought : Brought) {S K : Type 0} {holds : S → Option Files} {misses : S → ℕ} {asked : S → Option (List (List ℕ))} {shelf shelf_new : S} {told : K → Option (List ℕ)} {faults : K → ℕ} {out out_new : K}
-    {words : List (List ℕ)} {names : List (List ℕ)} {end : End}
-    → NamesWhatIsAsked words brought names → Ends holds misses asked shelf shelf_new told faults out out_new names (due_by words brought) end
+pub writes : (brought : Brought) {S K : Type 0} {holds : S → Option Files} {misses : S → ℕ} {asked : S → Option (List Request)} {shelf shelf_new : S} {told : K → Option (List ℕ)} {faults : K → ℕ} {out out_new : K}
+    {words : List (List ℕ)} {wanted : List Request} {end : End}
+    → NamesWhatIsAsked words brought wanted → Ends holds misses asked shelf shelf_new told faults out out_new wanted (due_by words brought) end
     → OfOutcome (holds shelf) words brought (λ o. Writes told out out_new (end_status end) o.bytes)
 writes brought {misses = misses} {shelf = shelf} {shelf_new = shelf_new} {told = told} {faults = faults} {out = out} {out_new = out_new} {words = words} {end = end} asked ends =
     λ files reader is may. writes_by told faults out out_new ends.made end (due_by words brought reader files) (Rose (misses shelf) (misses shelf_new)) ends.finishes
     (ends.reads.as_due files (may_hold (asked reader is) may) reader is)
 
 -- the lines that were told are those that the outcome asks for
-pub tells : (Told : List ℕ → Type 0) {S K : Type 0} {holds : S → Option Files} {misses : S → ℕ} {asked : S → Option (List (List ℕ))} {shelf shelf_new : S} {told : K → Option (List ℕ)} {faults : K → ℕ} {out out_new : K}
-    {words : List (List ℕ)} {brought : Brought} {names : List (List ℕ)} {end : End} → AreNamed words brought names
-    → NamesWhatIsAsked words brought names → Ends holds misses asked shelf shelf_new told faults out out_new names (due_by words brought) end → Told (end_lines end)
+pub tells : (Told : List ℕ → Type 0) {S K : Type 0} {holds : S → Option Files} {misses : S → ℕ} {asked : S → Option (List Request)} {shelf shelf_new : S} {told : K → Option (List ℕ)} {faults : K → ℕ} {out out_new : K}
+    {words : List (List ℕ)} {brought : Brought} {wanted : List Request} {end : End} → AreNamed words brought (names_of wanted)
+    → NamesWhatIsAsked words brought wanted → Ends holds misses asked shelf shelf_new told faults out out_new wanted (due_by words brought) end → Told (end_lines end)
     → OfOutcome (holds shelf) words brought (λ o. (lines : List ℕ) × AreLines (end_status end) o words brought (Rose (misses shelf) (misses shelf_new)) lines × Told lines)
-tells Told {holds = holds} {misses = misses} {shelf = shelf} {shelf_new = shelf_new} {told = told} {faults = faults} {out = out} {out_new = out_new} {words = words} {brought = brought} {names = names} {end = end} named asked ends h =
+tells Told {holds = holds} {misses = misses} {shelf = shelf} {shelf_new = shelf_new} {told = told} {faults = faults} {out = out} {out_new = out_new} {words = words} {brought = brought} {wanted = wanted} {end = end} named asked ends h =
     λ files reader is may. (
       end_lines end,
-      lines_by told faults out out_new ends.made end (due_by words brought reader files) words brought names (holds shelf) (Rose (misses shelf) (misses shelf_new)) named ends.finishes
+      lines_by told faults out out_new ends.made end (due_by words brought reader files) words brought (names_of wanted) (holds shelf) (Rose (misses shelf) (misses shelf_new)) named ends.finishes
           (ends.reads.as_due files (may_hold (asked reader is) may) reader is) ends.reads.unread,
       h,
     )
@@ -167,12 +168,12 @@ read_by told faults old new (Err failure) end words brought names shelf failed n
     may_fault failure words brought names shelf failed named u (sym (ap end_status is) ∙ fault)
 
 -- a call ends with a read fault only where a file of its words may have failed
-pub read_cause : {S K : Type 0} {holds : S → Option Files} {misses : S → ℕ} {asked : S → Option (List (List ℕ))} {shelf shelf_new : S} {told : K → Option (List ℕ)} {faults : K → ℕ} {out out_new : K}
-    {words : List (List ℕ)} {brought : Brought} {names : List (List ℕ)} {end : End} {due : Reader → Files → Result Writing Failure}
-    → AreNamed words brought names → Ends holds misses asked shelf shelf_new told faults out out_new names due end → end_status end ≡ status.ReadFault
+pub read_cause : {S K : Type 0} {holds : S → Option Files} {misses : S → ℕ} {asked : S → Option (List Request)} {shelf shelf_new : S} {told : K → Option (List ℕ)} {faults : K → ℕ} {out out_new : K}
+    {words : List (List ℕ)} {brought : Brought} {wanted : List Request} {end : End} {due : Reader → Files → Result Writing Failure}
+    → AreNamed words brought (names_of wanted) → Ends holds misses asked shelf shelf_new told faults out out_new wanted due end → end_status end ≡ status.ReadFault
     → MayFault words brought (holds shelf) (Rose (misses shelf) (misses shelf_new))
-read_cause {holds = holds} {misses = misses} {shelf = shelf} {shelf_new = shelf_new} {told = told} {faults = faults} {out = out} {out_new = out_new} {words = words} {brought = brought} {names = names} {end = end} named ends fault =
-    read_by told faults out out_new ends.made end words brought names (holds shelf) (Rose (misses shelf) (misses shelf_new)) named ends.finishes ends.reads.unread fault
+read_cause {holds = holds} {misses = misses} {shelf = shelf} {shelf_new = shelf_new} {told = told} {faults = faults} {out = out} {out_new = out_new} {words = words} {brought = brought} {wanted = wanted} {end = end} named ends fault =
+    read_by told faults out out_new ends.made end words brought (names_of wanted) (holds shelf) (Rose (misses shelf) (misses shelf_new)) named ends.finishes ends.reads.unread fault
 
 no_write_fault : (refused : RefusedEntries) → written_status refused ≡ status.WriteFault → ⊥
 no_write_fault [] is = absurd (cc is)

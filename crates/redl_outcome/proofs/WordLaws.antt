@@ -1,10 +1,9 @@
 -- How a call ends, by the words as they were read.
-use Rattle.std.proofs.Common.{◌≡◌, ◌⊎◌, ◌↔◌, inl, inr, ℕ, List, [], ◌∷◌, Option, Result, Ok, Err, IfOk, IfErr, IsErrOf, refl, sym, ap, ◌∙◌, subst, arith}
-use Rattle.redl_inputs.proofs.AskLaws.{ask_more-nothing, asked_none}
+use Rattle.std.proofs.Common.{◌≡◌, ◌⊎◌, ◌↔◌, inl, inr, ℕ, List, [], ◌∷◌, Option, Result, Ok, Err, IfOk, IfErr, IfSome, IsErrOf, refl, sym, ap, ◌∙◌, subst, arith}
+use Rattle.redl_inputs.proofs.AskLaws.{asked_none, asks_nothing}
 use Rattle.redl_inputs.proofs.ReadLaws.{always, fails_alone, reads_when}
 use Rattle.redl_inputs.proofs.ReaderLaws.{reads_command, reads_no_command}
 use Rattle.redl_outcome.proofs.TopLaws.{AreNamed, NamesWhatIsAsked, due_by}
-use Rattle.redl_lines.proofs.CauseLaws.{by_cause}
 use Rattle.redl_outcome.specs.Answers.{AreMisused, Asks, AsksUpTo, LacksFormat}
 use Rattle.redl_outcome.specs.Files.{asked_by, files_of}
 use Rattle.redl_outcome.specs.Words.{IsWanted, read_view, named_files, words_failure}
@@ -13,12 +12,13 @@ use Rattle.redl_outcome.specs.Brought.{Brought}
 use Rattle.redl_commands_shown.specs.Formats.{LeavesFormats, without_asked}
 use Rattle.redl_outcome.specs.Outcome.{writing_of}
 use Rattle.redl_outcome.specs.Plans.{Plan, plan}
-use Rattle.redl_inputs.specs.Asking.{EndsAsking}
+use Rattle.redl_inputs.specs.Asking.{AsksAll, EndsAsking, IsLast, refused_journal}
 use Rattle.redl_inputs.specs.Readers.{Reader, IsReader}
 use Rattle.redl_commands.specs.Writing.{Writing}
-use Rattle.redl_io.specs.Shelf.{Files}
+use Rattle.redl_io.specs.Shelf.{Files, names_of}
+use Rattle.redl_io.specs.declared.shelf.Request.{Request}
 use Rattle.redl_lines.specs.Ends.{End, end_lines, end_status, failed, written_status}
-use Rattle.redl_lines.specs.Failures.{Failure, caused, failure_status, no_memory, unread, usage}
+use Rattle.redl_lines.specs.Failures.{Cause, Failure, cause_status, caused, differ, failure_status, malformed, no_format, no_memory, no_package, no_second, no_sequence, not_written, other_count, other_document, over, unread, usage}
 use Rattle.redl_lines.specs.Lines.{failure_line}
 use Rattle.redl_lines.specs.Refused.{RefusedEntries}
 use Rattle.redl_lines.specs.Remarks.{all_refused}
@@ -31,7 +31,7 @@ use Rattle.redl_words.specs.declared.error.WordsError.{WordsError}
 use Rattle.redl_words.specs.declared.error.WordsError.TheVariants as error
 
 -- the files of the command that was read are those of the words
-pub are_named : (words : List (List ℕ)) (brought : Brought) (read : Result Declared WordsError) → IfOk read (λ command. IsCommand words (command_of command)) → AreNamed words brought (named_files brought read)
+pub are_named : (words : List (List ℕ)) (brought : Brought) (read : Result Declared WordsError) → IfOk read (λ command. IsCommand words (command_of command)) → AreNamed words brought (names_of (named_files brought read))
 are_named words brought (Ok command) is name among = record { command = command_of command; reads = is; among = among }
 are_named words brought (Err error) is name (k, within, here) = absurd (omega (arith, within))
 
@@ -50,18 +50,18 @@ is_wanted words brought (Err error.Usage) is none = λ reader files reads. ap (w
 is_wanted words brought (Err error.NoMemory) is none = tt
 
 -- ends for one thing that is due are ends for the same by another name
-pub ends_when : {S K : Type 0} {holds : S → Option Files} {misses : S → ℕ} {asked : S → Option (List (List ℕ))} {shelf shelf_new : S} {told : K → Option (List ℕ)} {faults : K → ℕ} {out out_new : K}
-    {names : List (List ℕ)} {end : End} {due : Reader → Files → Result Writing Failure}
+pub ends_when : {S K : Type 0} {holds : S → Option Files} {misses : S → ℕ} {asked : S → Option (List Request)} {shelf shelf_new : S} {told : K → Option (List ℕ)} {faults : K → ℕ} {out out_new : K}
+    {wanted : List Request} {end : End} {due : Reader → Files → Result Writing Failure}
     (later : Reader → Files → Result Writing Failure) → ((reader : Reader) (files : Files) → IsReader reader → later reader files ≡ due reader files)
-    → Ends holds misses asked shelf shelf_new told faults out out_new names due end → Ends holds misses asked shelf shelf_new told faults out out_new names later end
-ends_when {holds = holds} {shelf = shelf} {names = names} later same ends = record {
+    → Ends holds misses asked shelf shelf_new told faults out out_new wanted due end → Ends holds misses asked shelf shelf_new told faults out out_new wanted later end
+ends_when {holds = holds} {shelf = shelf} {wanted = wanted} later same ends = record {
   made = ends.made;
-  reads = reads_when later (always (holds shelf) names (λ files reader is. same reader files is)) ends.reads;
+  reads = reads_when later (always (holds shelf) wanted (λ files reader is. same reader files is)) ends.reads;
   finishes = ends.finishes;
 }
 
 -- a call ends with no more than a line where the words could not be had
-pub ends_unread : (brought : Brought) {S K : Type 0} {holds : S → Option Files} {misses : S → ℕ} {asked : S → Option (List (List ℕ))} (shelf : S) {told : K → Option (List ℕ)} {faults : K → ℕ} (out : K)
+pub ends_unread : (brought : Brought) {S K : Type 0} {holds : S → Option Files} {misses : S → ℕ} {asked : S → Option (List Request)} (shelf : S) {told : K → Option (List ℕ)} {faults : K → ℕ} (out : K)
     (error : WordsError) (due : Reader → Files → Result Writing Failure) → IsWanted brought (Err error) due
     → Ends holds misses asked shelf shelf told faults out out [] due (failed (words_failure error))
 ends_unread brought shelf out error.Usage due wanted = record {
@@ -117,25 +117,40 @@ leaves_all old new words (Err error) is same none = same
 
 -- ---- what the shelf was asked for
 
-ends_asking : (failure : Failure) (front later : List (List ℕ)) (Told : List ℕ → Type 0) → EndsAsking {Y = Writing} (Err failure) front later → Told (failure_line failure)
-    → AsksUpTo (failure_status failure) front later Told
-ends_asking no_memory front later Told ends told = tt
-ends_asking (unread name) front later Told (before, is) told = record { before = before; name = name; last = is; told = told }
-ends_asking (caused cause) front later Told ends told = by_cause (λ s. AsksUpTo s front later Told) tt tt tt tt tt tt tt cause
+-- a refused journal is the last one that was asked for, and the line tells its name
+ends_caused : (cause : Cause) (names : List (List ℕ)) (later : List Request) (Told : List ℕ → Type 0) → IfSome (refused_journal cause) (IsLast names) → Told (failure_line (caused cause))
+    → AsksUpTo (cause_status cause) names later Told
+ends_caused (malformed name) names later Told last told = record { name = name; cause = malformed name; refuses = refl; last = last; told = told }
+ends_caused (other_document name found expected) names later Told last told = record { name = name; cause = other_document name found expected; refuses = refl; last = last; told = told }
+ends_caused (other_count name found expected) names later Told last told = record { name = name; cause = other_count name found expected; refuses = refl; last = last; told = told }
+ends_caused usage names later Told last told = tt
+ends_caused (no_format name) names later Told last told = tt
+ends_caused (no_package fault) names later Told last told = tt
+ends_caused (no_second fault) names later Told last told = tt
+ends_caused (no_sequence reviewer) names later Told last told = tt
+ends_caused not_written names later Told last told = tt
+ends_caused differ names later Told last told = tt
+ends_caused (over limit) names later Told last told = tt
 
-ends_all : (refused : RefusedEntries) (front later : List (List ℕ)) (Told : List ℕ → Type 0) → later ≡ [] → AsksUpTo (written_status refused) front later Told
-ends_all [] front later Told none = none
-ends_all (entry ∷ refused) front later Told none = none
+ends_asking : (failure : Failure) (names : List (List ℕ)) (later : List Request) (Told : List ℕ → Type 0) → EndsAsking {Y = Writing} (Err failure) names later → Told (failure_line failure)
+    → AsksUpTo (failure_status failure) names later Told
+ends_asking no_memory names later Told ends told = tt
+ends_asking (unread name) names later Told last told = record { name = name; last = last; told = told }
+ends_asking (caused cause) names later Told last told = ends_caused cause names later Told last told
+
+ends_all : (refused : RefusedEntries) (names : List (List ℕ)) (later : List Request) (Told : List ℕ → Type 0) → later ≡ [] → AsksUpTo (written_status refused) names later Told
+ends_all [] names later Told none = none
+ends_all (entry ∷ refused) names later Told none = none
 
 -- by how the call ends
-asks_to_end : {K : Type 0} (told : K → Option (List ℕ)) (faults : K → ℕ) (out out_new : K) (made : Result Writing Failure) (end : End) (front later : List (List ℕ)) (Told : List ℕ → Type 0)
-    → Finishes told faults out out_new made end → EndsAsking made front later → Told (end_lines end) → AsksUpTo (end_status end) front later Told
-asks_to_end told faults out out_new (Ok writing) end front later Told (inl (is, all)) none lines = rw is (ends_all (all_refused writing.remarks) front later Told none)
-asks_to_end told faults out out_new (Ok writing) end front later Told (inr (is, some)) none lines = rw is none
-asks_to_end told faults out out_new (Err failure) end front later Told (is, same, stands) ends lines = rw is (ends_asking failure front later Told ends (rw is at lines))
+asks_to_end : {K : Type 0} (told : K → Option (List ℕ)) (faults : K → ℕ) (out out_new : K) (made : Result Writing Failure) (end : End) (names : List (List ℕ)) (later : List Request) (Told : List ℕ → Type 0)
+    → Finishes told faults out out_new made end → EndsAsking made names later → Told (end_lines end) → AsksUpTo (end_status end) names later Told
+asks_to_end told faults out out_new (Ok writing) end names later Told (inl (is, all)) none lines = rw is (ends_all (all_refused writing.remarks) names later Told none)
+asks_to_end told faults out out_new (Ok writing) end names later Told (inr (is, some)) none lines = rw is none
+asks_to_end told faults out out_new (Err failure) end names later Told (is, same, stands) ends lines = rw is (ends_asking failure names later Told ends (rw is at lines))
 
 -- what a call asked a shelf for that read the words of a command, or had no memory to
-pub asks_by_words : (brought : Brought) {S K : Type 0} {holds : S → Option Files} {misses : S → ℕ} {asked : S → Option (List (List ℕ))} {shelf shelf_new : S} {told : K → Option (List ℕ)} {faults : K → ℕ} {out out_new : K}
+pub asks_by_words : (brought : Brought) {S K : Type 0} {holds : S → Option Files} {misses : S → ℕ} {asked : S → Option (List Request)} {shelf shelf_new : S} {told : K → Option (List ℕ)} {faults : K → ℕ} {out out_new : K}
     {due : Reader → Files → Result Writing Failure} {Told : List ℕ → Type 0} (words : List (List ℕ)) (read : Result Declared WordsError) (end : End)
     → IfOk read (λ command. IsCommand words (command_of command)) → (IsErrOf read error.Usage → HasNoCommand words) → IfErr read (λ error. end ≡ failed (words_failure error))
     → Ends holds misses asked shelf shelf_new told faults out out_new (named_files brought read) due end → Told (end_lines end)
@@ -147,19 +162,19 @@ asks_by_words brought {told = told} {faults = faults} {out = out} {out_new = out
       later = asks.later;
       prefix = ap (λ c. files_of brought (plan c)) (sym (at_most_one words (command_of found) command is reads)) ∙ asks.prefix;
       asked = asks.asked;
-      ends = asks_to_end told faults out out_new done.made end asks.front asks.later Told done.finishes asks.ends lines;
+      ends = asks_to_end told faults out out_new done.made end (names_of asks.front) asks.later Told done.finishes asks.ends lines;
     }
 asks_by_words brought words (Err error.Usage) end is none ends done lines command reads = absurd (none refl command reads)
 asks_by_words brought {asked = asked} {shelf = shelf} words (Err error.NoMemory) end is none ends done lines command reads = record {
   front = [];
   later = files_of brought (plan command);
   prefix = refl;
-  asked = asked_none done.reads.asks ∙ ask_more-nothing (asked shelf);
+  asked = subst (λ now. AsksAll (asked shelf) now []) (sym (asked_none done.reads.asks)) (asks_nothing (asked shelf));
   ends = rw ends tt;
 }
 
 -- words of no command ask for nothing
-pub asks_for_nothing : (brought : Brought) {S K : Type 0} {holds : S → Option Files} {misses : S → ℕ} {asked : S → Option (List (List ℕ))} {shelf shelf_new : S} {told : K → Option (List ℕ)} {faults : K → ℕ} {out out_new : K}
+pub asks_for_nothing : (brought : Brought) {S K : Type 0} {holds : S → Option Files} {misses : S → ℕ} {asked : S → Option (List Request)} {shelf shelf_new : S} {told : K → Option (List ℕ)} {faults : K → ℕ} {out out_new : K}
     {due : Reader → Files → Result Writing Failure} {end : End} (words : List (List ℕ)) (read : Result Declared WordsError)
     → IfOk read (λ command. IsCommand words (command_of command)) → Ends holds misses asked shelf shelf_new told faults out out_new (named_files brought read) due end
     → HasNoCommand words → asked shelf_new ≡ asked shelf

@@ -1,15 +1,17 @@
 -- What a call answers and leaves behind, by its outcome.
-use Rattle.std.specs.Prelude.{◌≡◌, ◌⊎◌, ℕ, List, [], ◌∷◌, ◌++◌, Option, Contains, Err}
+use Rattle.std.specs.Prelude.{◌≡◌, ◌⊎◌, ℕ, List, [], ◌++◌, Option, Some, Contains, Err}
 use Rattle.std.specs.Io.KnownBytes.{append_known}
-use Rattle.redl_io.specs.Shelf.{Files, Lacks, ask_more}
+use Rattle.redl_io.specs.Shelf.{Files, Lacks, names_of}
+use Rattle.redl_io.specs.declared.shelf.Request.{Request}
 use Rattle.redl_io.specs.Sink.{GrowsByFront}
 use Rattle.redl_outcome.specs.Outcome.{outcome}
+use Rattle.redl_inputs.specs.Asking.{AsksAll, IsLast, refused_journal}
 use Rattle.redl_inputs.specs.Readers.{Reader, IsReader}
 use Rattle.redl_inputs.specs.Reading.{MayHold}
 use Rattle.redl_commands.specs.Writing.{Outcome}
 use Rattle.redl_lines.specs.Ends.{Tells}
-use Rattle.redl_lines.specs.Failures.{caused, no_format}
-use Rattle.redl_lines.specs.Lines.{no_memory_line, unwritten_line, unread_line}
+use Rattle.redl_lines.specs.Failures.{Cause, caused, no_format}
+use Rattle.redl_lines.specs.Lines.{failure_line, no_memory_line, unwritten_line, unread_line}
 use Rattle.redl_outcome.specs.Files.{asked_by, files_of}
 use Rattle.redl_outcome.specs.Brought.{Brought}
 use Rattle.redl_outcome.specs.Plans.{Plan, has_asked, plan}
@@ -45,7 +47,7 @@ Writes told old new _ bytes = told new ≡ told old
 pub record IsFileOf (words : List (List ℕ)) (brought : Brought) (name : List ℕ) : Type 0 where
   pub command : Command
   pub reads : IsCommand words command
-  pub among : Contains (files_of brought (plan command)) name
+  pub among : Contains (names_of (files_of brought (plan command))) name
 
 -- a command with this plan asks for a format that is not there
 abbrev pub LacksFormat : Brought → Plan → Type 0
@@ -78,24 +80,32 @@ abbrev pub MayFault : List (List ℕ) → Brought → Option Files → Type 0 �
 MayFault words brought told failed = (name : List ℕ) × IsFileOf words brought name × (failed ⊎ Lacks told name)
 
 -- the last of these names is told
-pub record TellsLast (front : List (List ℕ)) (Told : List ℕ → Type 0) : Type 0 where
-  pub before : List (List ℕ)
+pub record TellsLast (names : List (List ℕ)) (Told : List ℕ → Type 0) : Type 0 where
   pub name : List ℕ
-  pub last : front ≡ before ++ name ∷ []
+  pub last : IsLast names name
   pub told : Told (unread_line name)
 
--- Where a call put its output, no name is left. Where a file could not be read, the line tells the last name that was asked for.
-abbrev pub AsksUpTo : Status → List (List ℕ) → List (List ℕ) → (List ℕ → Type 0) → Type 0
-AsksUpTo status.Done front later Told = later ≡ []
-AsksUpTo status.Refused front later Told = later ≡ []
-AsksUpTo status.WriteFault front later Told = later ≡ []
-AsksUpTo status.ReadFault front later Told = TellsLast front Told
-AsksUpTo _ front later Told = Unit {0}
+-- the last of these names is that of a journal that is refused, and the line tells why
+pub record TellsRefused (names : List (List ℕ)) (Told : List ℕ → Type 0) : Type 0 where
+  pub name : List ℕ
+  pub cause : Cause
+  pub refuses : refused_journal cause ≡ Some name
+  pub last : IsLast names name
+  pub told : Told (failure_line (caused cause))
 
--- a call with this status, which told lines of which this holds, asked a shelf for the first ones of these names, in their order, each once
-pub record Asks (old new : Option (List (List ℕ))) (names : List (List ℕ)) (status : Status) (Told : List ℕ → Type 0) : Type 0 where
-  pub front : List (List ℕ)
-  pub later : List (List ℕ)
-  pub prefix : names ≡ front ++ later
-  pub asked : new ≡ ask_more old front
-  pub ends : AsksUpTo status front later Told
+-- Where a call put its output, no file is left. Where a file could not be read, or a journal was refused, the line tells the last one that was asked for.
+abbrev pub AsksUpTo : Status → List (List ℕ) → List Request → (List ℕ → Type 0) → Type 0
+AsksUpTo status.Done names later Told = later ≡ []
+AsksUpTo status.Refused names later Told = later ≡ []
+AsksUpTo status.WriteFault names later Told = later ≡ []
+AsksUpTo status.ReadFault names later Told = TellsLast names Told
+AsksUpTo status.Journal names later Told = TellsRefused names Told
+AsksUpTo _ names later Told = Unit {0}
+
+-- a call with this status, which told lines of which this holds, asked a shelf for the first ones of these files, in their order, each once and within its cap
+pub record Asks (old new : Option (List Request)) (wanted : List Request) (status : Status) (Told : List ℕ → Type 0) : Type 0 where
+  pub front : List Request
+  pub later : List Request
+  pub prefix : wanted ≡ front ++ later
+  pub asked : AsksAll old new front
+  pub ends : AsksUpTo status (names_of front) later Told

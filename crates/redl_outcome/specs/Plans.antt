@@ -1,5 +1,5 @@
 -- The plan of each command: what it makes and of which package, its journals and locks, its format, and what it decides.
-use Rattle.std.specs.Prelude.{◌++◌, ◌∷◌, ℕ, Bool, List, [], Option, None, Some, Result, Err}
+use Rattle.std.specs.Prelude.{ℕ, Bool, List, [], Option, None, Some, Result, Err}
 use Rattle.redl_commands.specs.Check.{checked}
 use Rattle.redl_commands.specs.Decide.{chosen_journal}
 use Rattle.redl_commands.specs.Join.{joined}
@@ -39,10 +39,12 @@ pub data Deciding : Type 0 where
   -- the verdicts of its journals, with its locks
   by_verdicts : Deciding
 
--- what a command makes and of which package, the names of its journals and of a second package among them, its locks, the name of
--- the format of listings or of reports that it asks for, and what it decides
+-- what a command makes and of which package; where there are two sittings, the journals of the first one and the second package; its
+-- journals and locks, the name of the format of listings or of reports that it asks for, and what it decides
 pub record Plan : Type 0 where
   pub makes : Making
+  pub firsts : List (List ℕ)
+  pub second : Option (List ℕ)
   pub journals : List (List ℕ)
   pub locks : List Lock
   pub format : Option (List ℕ)
@@ -51,7 +53,7 @@ pub record Plan : Type 0 where
 
 -- a command that has no more than this
 abbrev pub only : Making → Plan
-only making = record { makes = making; journals = []; locks = []; format = None; report = None; decides = nothing }
+only making = record { makes = making; firsts = []; second = None; journals = []; locks = []; format = None; report = None; decides = nothing }
 
 -- the plan of each command
 abbrev pub plan : Command → Plan
@@ -84,7 +86,9 @@ plan (decide p reviewer journals locks choices rank) =
       locks = locks;
     }
 plan (resume p q firsts journals) = record (only (of_package p (λ reader files brought whole. resumed reader files q firsts journals whole))) {
-  journals = firsts ++ q ∷ journals;
+  firsts = firsts;
+  second = Some q;
+  journals = journals;
 }
 plan (join journals) = record (only (of_no_package (λ reader files. joined reader files journal_bytes journals))) {
   journals = journals;

@@ -7,6 +7,7 @@ use Rattle.redl_outcome.specs.Plans.{plan}
 use Rattle.redl_commands.specs.Writing.{Writing}
 use Rattle.redl_inputs.specs.Readers.{Reader, IsReader}
 use Rattle.redl_io.specs.Shelf.{Files}
+use Rattle.redl_io.specs.declared.shelf.Request.{Request}
 use Rattle.redl_lines.specs.Failures.{Failure, caused, usage, no_memory}
 use Rattle.redl_words.specs.Commands.{Command}
 use Rattle.redl_words.specs.Views.{command_of}
@@ -19,8 +20,8 @@ abbrev pub read_view : Result DeclaredCommand WordsError → Result Command Word
 read_view (Ok command) = Ok (command_of command)
 read_view (Err error) = Err error
 
--- the names of the files of the command, where the words are one
-abbrev pub named_files : Brought → Result DeclaredCommand WordsError → List (List ℕ)
+-- the files of the command, where the words are one
+abbrev pub named_files : Brought → Result DeclaredCommand WordsError → List Request
 named_files brought (Ok command) = files_of brought (plan (command_of command))
 named_files brought (Err error) = []
 

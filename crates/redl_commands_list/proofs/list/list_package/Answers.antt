@@ -3,6 +3,8 @@ use Rattle.std.proofs.lemmas.Result.{err_from_is_err_and}
 use Rattle.redl_commands_list.proofs.PartNameLaws.{session_names, revisions_named}
 use Rattle.redl_inputs.proofs.ReadLaws.{fails_alone, reads_stops, reads_then_takes, takes_stops_reads, takes_then_reads}
 use Rattle.redl_inputs.specs.Admission.{opened_over}
+use Rattle.redl_inputs.specs.Asking.{files_within}
+use Rattle.redl_io.specs.Limits.{journal_bytes}
 use Rattle.redl_commands_shown.specs.List.{listing_named, part_names}
 use Rattle.redl_commands_shown.specs.Formats.{formats_by}
 use Rattle.redl_words.specs.Views.{onlys_view}
@@ -14,12 +16,12 @@ returns-in_err-package-clause-read g c =
     let journals = c.args.command.now.journals.items in
     let formats = formats_by (λ b. (goal.RowFormat-dyn g (b.vtable, b.value)).format_name b.value) (λ b. (goal.RowFormat-dyn g (b.vtable, b.value)).text_for b.value) c.args.formats.now.items in
     rw (p.1, p.2) (reads_stops (λ admission reader files. listing_named formats c.args.command.now.format (onlys_view c.args.command.now.only.items) admission)
-    (takes_stops_reads (λ nodes reader files. opened_over reader files c.args.command.now.locks.items journals c.args.bytes.now nodes) _ journals c.in_err-package.ensures.read))
+    (takes_stops_reads (λ nodes reader files. opened_over reader files c.args.command.now.locks.items journals c.args.bytes.now nodes) _ (files_within journal_bytes journals) c.in_err-package.ensures.read))
 
 pub returns-in_err-parts-clause-read : goal.returns-in_err-parts-clause-read
 returns-in_err-parts-clause-read g c =
     let p = err_from_is_err_and c.from_residual-in_err-parts.result c.from_residual-in_err-parts.ensures.1 in
-    rw (p.1, p.2) (fails_alone _ c.args.command.now.journals.items tt (λ reader files is. tt))
+    rw (p.1, p.2) (fails_alone _ (files_within journal_bytes c.args.command.now.journals.items) tt (λ reader files is. tt))
 
 pub returns-in_err-admitted-clause-read : goal.returns-in_err-admitted-clause-read
 returns-in_err-admitted-clause-read g c =

@@ -20,7 +20,7 @@ put_shown-requires-clause-said g c =
 pub returns-in_default : goal.returns-in_default
 returns-in_default g c = record {
   made = Err no_memory;
-  reads = record { as_due = λ reader reads. tt; never_unread = tt };
+  reads = record { as_due = λ reader reads. tt; of_no_file = tt };
   finishes = (refl, refl, refl);
 }
 
@@ -30,7 +30,7 @@ returns g c = record {
     bytes = page_text (skin_view c.args.skin.now) (shown_of c.args.session.now c.args.facts.now.locked.items c.args.facts.now.digest (heading_view c.args.heading));
     remarks = remarks_view c.args.remarks;
   });
-  reads = record { as_due = λ reader reads. refl; never_unread = tt };
+  reads = record { as_due = λ reader reads. refl; of_no_file = tt };
   finishes = subst
       (λ (shown : Shown). Finishes g.O.Sink.told g.O.Sink.faults c.args.out.now c.put_shown.new.out
       (Ok (record { bytes = page_text (skin_view c.args.skin.now) shown; remarks = remarks_view c.args.remarks })) (end_view c.put_shown.result))

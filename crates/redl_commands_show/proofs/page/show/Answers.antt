@@ -15,7 +15,7 @@ put_session-requires-clause-locked g c = ap length c.in-Ok.ensures.locked ∙ le
 pub returns-in_default : goal.returns-in_default
 returns-in_default g c = record {
   made = Err no_memory;
-  reads = record { as_due = λ reader reads. tt; never_unread = tt };
+  reads = record { as_due = λ reader reads. tt; of_no_file = tt };
   finishes = (refl, refl, refl);
 }
 

@@ -12,6 +12,6 @@ returns-in-Ok g c =
 pub returns-in-Err : goal.returns-in-Err
 returns-in-Err g c = record {
   made = Err no_memory;
-  reads = record { as_due = λ reader reads. tt; never_unread = tt };
+  reads = record { as_due = λ reader reads. tt; of_no_file = tt };
   finishes = (refl, refl, refl);
 }
