@@ -4,10 +4,9 @@
 //! Bodies, leaves and what is wanted are outlines. The wanted ones follow from ECMA-376 Part 1, 17.13.5.
 
 use crate::live_session::session_over;
-use redl_editor::{Editor, story_number};
+use redl_editor::Editor;
 use redl_io::MemSink;
 use redl_live_session::LiveSession;
-use redl_opc::Package;
 use redl_outline::{
     document, document_package, entries_of, nodes_text, outline_text, package, part,
 };
@@ -167,10 +166,15 @@ fn two_stories(alloc: Global) -> Result<String, AllocError> {
 fn stories_are_numbered_in_the_order_of_the_parts(rt: HostRuntime) -> Result<(), Fail> {
     let alloc = rt.alloc();
     let text = two_stories(alloc)?;
-    let pkg = Package::make(alloc, redl_xml::read(alloc, text.as_bytes())?)?;
+    let session = session_over(alloc, text.as_bytes(), Locks::new(Vec::new(alloc)))?;
+    let editor = session.editor();
     for (part, number) in [(0, None), (1, Some(0)), (2, None), (3, Some(1)), (4, None)] {
-        let got = story_number(&pkg, part);
+        let got = editor.story_of(part);
         assert!(rt; got == number, "{part}: {got:?}");
+    }
+    for (story, number) in [(0, Some(1)), (1, Some(3)), (2, None)] {
+        let got = editor.part_of(story);
+        assert!(rt; got == number, "{story}: {got:?}");
     }
     Ok(())
 }

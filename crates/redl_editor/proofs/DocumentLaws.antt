@@ -1,5 +1,5 @@
 -- What an editor keeps, and the package that it was taken from.
-use Rattle.std.proofs.Common.{◌≡◌, ◌∙◌, ℕ, zero, suc, List, [], ◌∷◌, map, slice_get, Result, Ok, Err, Bool, true, false, All, replicate, refl, sym, ap, subst, if◌then◌else◌}
+use Rattle.std.proofs.Common.{◌≡◌, ◌∙◌, ℕ, zero, suc, List, [], ◌∷◌, map, slice_get, None, Result, Ok, Err, Bool, true, false, All, replicate, refl, sym, ap, subst, if◌then◌else◌}
 use Rattle.std.proofs.lemmas.List.Elements.{All-head, All-tail}
 use Rattle.std.specs.Result.{OnErr, OnOk}
 use Rattle.redl_laws.proofs.Leaves.Members as members
@@ -7,6 +7,7 @@ use Rattle.redl_laws.proofs.Leaves.Members.{package-unheld}
 use Rattle.redl_laws.proofs.Leaves.Originals.{original-slots}
 use Rattle.redl_laws.proofs.Leaves.Shown.{IsBlind, changed-blind, shown-blind, package-shows}
 use Rattle.redl_laws.proofs.Leaves.Stories.{package-shown}
+use Rattle.redl_opc.specs.Shape.{refusal}
 use Rattle.redl_tree.proofs.Decisions.StoryLaws.{Agree, changed_in-agree}
 use Rattle.redl_tree.specs.Decisions.Packages.{is_root, roots_are_plain, stories, StoryRule, changed_in, changed_package, pass_package}
 use Rattle.redl_tree.specs.Leaves.Containers.{opens}
@@ -23,6 +24,7 @@ use Rattle.redl_editor.specs.Inside.Begun.{AreBegun}
 use Rattle.redl_editor.specs.Changes.{is_changed}
 use Rattle.redl_editor.specs.Documents.{Document, IsNumbered, IsConsistent, leaf_of}
 use Rattle.redl_editor.specs.Kept.{AreKept, AreUnheld, AreTables, lent_story}
+use Rattle.redl_editor.specs.Parts.{story_parts}
 use Rattle.redl_editor.specs.Stories.{empty_rule, original_rule, states_kept, slots_kept, original_package}
 use Rattle.redl_editor.specs.declared.story.Story.{Story}
 use Rattle.redl_editor.specs.declared.table.Table.{Table}
@@ -77,12 +79,15 @@ begun-kept revisions (part ∷ parts) (story ∷ kept) (table ∷ tables) begun 
   begun-kept revisions parts kept tables begun.1 known.1,
 )
 
-pub begun-consistent : (revisions : ℕ) (nodes : Nodes) (left : List Node) (kept : List Story) (tables : List Table) → IsNumbered nodes → roots_are_plain [] nodes ≡ true
-    → original_package left kept ≡ nodes → AreBegun (stories nodes) kept → AreTables kept tables → IsConsistent left kept tables (replicate revisions Keep)
-begun-consistent revisions nodes left kept tables numbered plain is begun known = record {
+pub begun-consistent : (revisions : ℕ) (nodes : Nodes) (left : List Node) (kept : List Story) (tables : List Table) → refusal nodes ≡ None → IsNumbered nodes → roots_are_plain [] nodes ≡ true
+    → original_package left kept ≡ nodes → AreBegun (stories nodes) kept → AreTables kept tables
+    → IsConsistent left kept tables (replicate revisions Keep) (story_parts nodes)
+begun-consistent revisions nodes left kept tables shape numbered plain is begun known = record {
+  shape = ap refusal is ∙ shape;
   numbered = subst (λ (ns : Nodes). IsNumbered ns) (sym is) numbered;
   plain = ap (roots_are_plain []) is ∙ plain;
   kept = subst (λ (ns : Nodes). AreKept (replicate revisions Keep) (stories ns) kept tables) (sym is) (begun-kept revisions (stories nodes) kept tables begun known);
+  parts = ap story_parts (sym is);
 }
 
 -- ---- what is written
@@ -96,7 +101,7 @@ kept-states says (part ∷ parts) [] tables are = absurd are
 kept-states says (part ∷ parts) (story ∷ kept) [] are = absurd are
 kept-states says (part ∷ parts) (story ∷ kept) (table ∷ tables) are = (are.0.states, kept-states says parts kept tables are.1)
 
-pub kept-written : (nodes : List Node) (kept : List Story) (tables : List Table) (says : List Say) → IsConsistent nodes kept tables says
+pub kept-written : {numbers : List ℕ} (nodes : List Node) (kept : List Story) (tables : List Table) (says : List Say) → IsConsistent nodes kept tables says numbers
     → changed_package shown_rule (map states_kept kept) (nodes_of nodes) ≡ pass_package says (original_package nodes kept)
 kept-written nodes kept tables says is =
     sym (changed-blind shown_rule shown-blind original_rule (map states_kept kept) (map slots_kept kept) [] (nodes_of nodes))
@@ -117,7 +122,7 @@ shown-lent says (part ∷ parts) (story ∷ kept) (table ∷ tables) are shows z
 shown-lent says (part ∷ parts) (story ∷ kept) (table ∷ tables) are shows (suc k) place =
     shown-lent says parts kept tables are.1 (All-tail (ShowsStory opens says) part parts shows) k place
 
-pub kept-lent : (nodes : List Node) (kept : List Story) (tables : List Table) (says : List Say) → IsConsistent nodes kept tables says → (story place : ℕ)
+pub kept-lent : {numbers : List ℕ} (nodes : List Node) (kept : List Story) (tables : List Table) (says : List Say) → IsConsistent nodes kept tables says numbers → (story place : ℕ)
     → lent_story (slice_get kept story) place ≡ leaf_of says (slice_get (stories (original_package nodes kept)) story) place
 kept-lent nodes kept tables says is =
     shown-lent says (stories (original_package nodes kept)) kept tables is.kept
@@ -136,30 +141,33 @@ numbered-unheld nodes numbered is_set none = unheld is_set (stories nodes) (pack
 pub original-stays : (nodes : List Node) (kept now : List Story) → map slots_kept kept ≡ map slots_kept now → original_package nodes now ≡ original_package nodes kept
 original-stays nodes kept now same = ap (λ slots. changed_package original_rule slots (nodes_of nodes)) (sym same)
 
-pub set-consistent : (nodes : List Node) (kept now : List Story) (tables : List Table) (old new : List Say) → IsConsistent nodes kept tables old
-    → map slots_kept kept ≡ map slots_kept now → AreKept new (stories (original_package nodes kept)) now tables → IsConsistent nodes now tables new
+pub set-consistent : {numbers : List ℕ} (nodes : List Node) (kept now : List Story) (tables : List Table) (old new : List Say) → IsConsistent nodes kept tables old numbers
+    → map slots_kept kept ≡ map slots_kept now → AreKept new (stories (original_package nodes kept)) now tables → IsConsistent nodes now tables new numbers
 set-consistent nodes kept now tables old new is same are =
     let stays = original-stays nodes kept now same in record {
+      shape = ap refusal stays ∙ is.shape;
       numbered = subst (λ (ns : Nodes). IsNumbered ns) (sym stays) is.numbered;
       plain = ap (roots_are_plain []) stays ∙ is.plain;
       kept = subst (λ (ns : Nodes). AreKept new (stories ns) now tables) (sym stays) are;
+      parts = is.parts ∙ ap story_parts (sym stays);
     }
 
 -- after a call that sets them, or runs out of memory
-pub set-either : {E : Type 0} (nodes : List Node) (kept now : List Story) (tables : List Table) (old new : List Say) (settings : List Setting) (result : Result (Unit {0}) E)
-    → IsConsistent nodes kept tables old
+pub set-either : {E : Type 0} {numbers : List ℕ} (nodes : List Node) (kept now : List Story) (tables : List Table) (old new : List Say) (settings : List Setting) (result : Result (Unit {0}) E)
+    → IsConsistent nodes kept tables old numbers
     → OnOk result (new ≡ set_each old settings)
     → OnOk result ((parts : List Element) → AreUnheld (is_changed old (set_each old settings)) parts → AreKept old parts kept tables → AreKept new parts now tables)
-    → OnErr result (new ≡ old) → OnErr result (now ≡ kept) → IsConsistent nodes now tables new
-set-either nodes kept now tables old new settings (Ok done) is says keeps said untouched =
+    → OnErr result (new ≡ old) → OnErr result (now ≡ kept) → IsConsistent nodes now tables new numbers
+set-either {E} {numbers} nodes kept now tables old new settings (Ok done) is says keeps said untouched =
     let parts = stories (original_package nodes kept) in
     let are = keeps parts (numbered-unheld (original_package nodes kept) is.numbered (is_changed old (set_each old settings)) refl) is.kept in
     set-consistent nodes kept now tables old new is (kept-slots old new parts kept now tables tables is.kept are) are
-set-either nodes kept now tables old new settings (Err error) is says keeps said untouched =
-    subst (λ (s : List Story). IsConsistent nodes s tables new) (sym untouched) (subst (λ (s : List Say). IsConsistent nodes kept tables s) (sym said) is)
+set-either {E} {numbers} nodes kept now tables old new settings (Err error) is says keeps said untouched =
+    subst (λ (s : List Story). IsConsistent nodes s tables new numbers) (sym untouched)
+    (subst (λ (s : List Say). IsConsistent nodes kept tables s numbers) (sym said) is)
 
-pub set-document : {E : Type 0} (nodes : List Node) (kept now : List Story) (tables : List Table) (old new : List Say) (settings : List Setting) (result : Result (Unit {0}) E)
-    → IsConsistent nodes kept tables old
+pub set-document : {E : Type 0} {numbers : List ℕ} (nodes : List Node) (kept now : List Story) (tables : List Table) (old new : List Say) (settings : List Setting) (result : Result (Unit {0}) E)
+    → IsConsistent nodes kept tables old numbers
     → OnOk result (new ≡ set_each old settings)
     → OnOk result ((parts : List Element) → AreUnheld (is_changed old (set_each old settings)) parts → AreKept old parts kept tables → AreKept new parts now tables)
     → OnOk result (◌≡◌ {A = Document} (record { nodes = original_package nodes now; says = new }) (record { nodes = original_package nodes kept; says = set_each old settings }))

@@ -2,6 +2,7 @@
 use Rattle.std.specs.Prelude.{ℕ, ◌≡◌, List, [], map, slice_get, Option, Some, None, true, refl}
 use Rattle.std.specs.Coded.{Coded, code_by, coded_list, coded×}
 use Rattle.redl_opc.specs.Code.{nodes_code}
+use Rattle.redl_opc.specs.Shape.{refusal}
 use Rattle.redl_tree.specs.Decisions.Packages.{roots_are_plain, stories}
 use Rattle.redl_tree.specs.Leaves.Leaf.{leaves}
 use Rattle.redl_tree.specs.Leaves.Present.{present_leaf}
@@ -12,6 +13,7 @@ use Rattle.redl_tree.specs.Revisions.Numbers.{IsIndexed}
 use Rattle.redl_tree.specs.declared.kinds.Say.{Say}
 use Rattle.redl_tree.specs.declared.node.Node.{Node}
 use Rattle.redl_editor.specs.Kept.{AreKept, count_of}
+use Rattle.redl_editor.specs.Parts.{story_parts}
 use Rattle.redl_editor.specs.Stories.{original_package}
 use Rattle.redl_editor.specs.declared.story.Story.{Story}
 use Rattle.redl_editor.specs.declared.table.Table.{Table}
@@ -32,11 +34,13 @@ pub record IsNumbered (nodes : Nodes) : Type 0 where
   pub value : Value
   pub indexed : IsIndexed value nodes
 
--- what is kept is that of a numbered package under these says
-pub record IsConsistent (nodes : List Node) (taken : List Story) (tables : List Table) (says : List Say) : Type 0 where
+-- what is kept is that of a numbered package under these says, and its parts with these numbers are the stories
+pub record IsConsistent (nodes : List Node) (taken : List Story) (tables : List Table) (says : List Say) (numbers : List ℕ) : Type 0 where
+  pub shape : refusal (original_package nodes taken) ≡ None
   pub numbered : IsNumbered (original_package nodes taken)
   pub plain : roots_are_plain [] (original_package nodes taken) ≡ true
   pub kept : AreKept says (stories (original_package nodes taken)) taken tables
+  pub parts : numbers ≡ story_parts (original_package nodes taken)
 
 -- ---- leaves by their numbers
 

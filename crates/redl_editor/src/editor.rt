@@ -1,12 +1,15 @@
 //! The editor: a package whose stories are kept leaf by leaf, each as it is under the present says.
 
-ghost use Rattle.std.specs.Prelude.{◌≡◌, ◌==◌, ◌<◌, ◌≤◌, ◌+◌, ◌∷◌, [], length, map, replicate, true, IfOk, OnOk, OnErr, IsOk};
+ghost use Rattle.std.specs.Prelude.{◌≡◌, ◌==◌, ◌<◌, ◌≤◌, ◌+◌, ◌∷◌, ◌↔◌, ℕ, [], length, map, replicate, true, is_some, nat_lt, Some, IfOk, IfSome, OnOk, OnErr, IsOk};
 ghost use Rattle.redl_editor.specs.Changes.{setting_of, is_changed, former_of};
 ghost use Rattle.redl_editor.specs.Costs.{AreCounted, parts_cost};
-ghost use Rattle.redl_editor.specs.Documents.{IsNumbered, count_at, present_at};
+ghost use Rattle.redl_editor.specs.Documents.{IsNumbered, count_at, leaf_of, present_at};
 ghost use Rattle.redl_editor.specs.Elsewhere.{StaysElsewhere};
+ghost use Rattle.redl_editor.specs.Kept.{count_of};
+ghost use Rattle.redl_editor.specs.Parts.{story_number};
 ghost use Rattle.redl_io.specs.Sink.{Puts};
 ghost use Rattle.redl_leaves.specs.Lends.{lent_nodes};
+ghost use Rattle.redl_opc.specs.Parts.{story};
 ghost use Rattle.redl_tree.specs.Decisions.Fates.{say_of};
 ghost use Rattle.redl_tree.specs.Decisions.Packages.{roots_are_plain, pass_package, stories};
 ghost use Rattle.redl_tree.specs.Leaves.Settings.{set_each, set_say};
@@ -16,6 +19,7 @@ ghost use Rattle.redl_tree.specs.declared.kinds.Say.TheVariants.{Keep};
 use crate::bulk::set_all;
 use crate::changing::Change;
 use crate::finding::{count_leaves, find_present};
+use crate::numbering::{find_part, part_at, story_parts};
 use crate::story::Story;
 use crate::table::{Table, tables_of};
 use crate::taking::take_stories;
@@ -37,6 +41,8 @@ pub struct Editor<'a> {
     stories: Vec<Story<'a>>,
     tables: Vec<Table>,
     says: Vec<Say>,
+    // The part of each story.
+    parts: Vec<u32>,
 }
 
 impl<'a> Model for Editor<'a> {
@@ -50,7 +56,7 @@ impl<'a> Model for Editor<'a> {
 
     ghost view = { λ editor. record { nodes = original_package editor.nodes.items editor.stories.items; says = editor.says.items } };
 
-    ghost invariant = { λ editor. IsConsistent editor.nodes.items editor.stories.items editor.tables.items editor.says.items };
+    ghost invariant = { λ editor. IsConsistent editor.nodes.items editor.stories.items editor.tables.items editor.says.items editor.parts.items };
 }
 
 impl<'a> Editor<'a> {
@@ -62,6 +68,7 @@ impl<'a> Editor<'a> {
         requires plain { roots_are_plain [] pkg ≡ true }
         ensures { IfOk result (λ editor. editor ≡ record { nodes = pkg.entry; says = replicate revisions Keep }) }
     {
+        let parts = story_parts(alloc, &pkg)?;
         let mut nodes = pkg.into_nodes();
         let stories = take_stories(alloc, &mut nodes)?;
         let tables = tables_of(alloc, &stories)?;
@@ -72,6 +79,7 @@ impl<'a> Editor<'a> {
             stories,
             tables,
             says,
+            parts,
         })
     }
 
@@ -87,6 +95,26 @@ impl<'a> Editor<'a> {
         ensures { result ≡ length (stories self.now.nodes) }
     {
         self.stories.len()
+    }
+
+    /// The number of the story of a part, by which `leaves` and `leaf` know it. `None` exactly where the part is no story, or no part
+    /// has this number.
+    pub fn story_of(&self, part: u32) -> Option<usize>
+        ensures value { result ≡ story_number self.now.nodes part }
+
+        // The leaves of this story are those of the part.
+        ensures leaves { IfSome result (λ number. count_at self.now number ≡ count_of (story self.now.nodes part)) }
+        ensures leaf { IfSome result (λ number. (place : ℕ) → present_at self.now number place ≡ leaf_of self.now.says (story self.now.nodes part) place) }
+    {
+        find_part(&self.parts, part)
+    }
+
+    /// The part that a story is of. `None` exactly where the package has no story with this number.
+    pub fn part_of(&self, story: usize) -> Option<u32>
+        ensures part { (part : ℕ) → (result ≡ Some part) ↔ (story_number self.now.nodes part ≡ Some story) }
+        ensures some { is_some result ≡ nat_lt story (length (stories self.now.nodes)) }
+    {
+        part_at(&self.parts, story)
     }
 
     /// The number of leaves of a story, and 0 where the package has no story with this number. Stories are numbered from 0.

@@ -22,4 +22,3 @@ mod writing;
 
 pub use changing::Change;
 pub use editor::Editor;
-pub use numbering::story_number;

@@ -1,6 +1,7 @@
-use Rattle.std.proofs.Common.{◌≡◌, ◌∙◌, ◌<◌, ◌^◌, List, length, replicate, rules, refl, sym, subst, ap, arith}
+use Rattle.std.proofs.Common.{◌≡◌, ◌∙◌, ◌<◌, ◌^◌, ℕ, List, None, length, replicate, rules, refl, sym, subst, ap, arith}
 use Rattle.std.proofs.lemmas.List.{with_items_is}
 use Rattle.std.specs.Vec.{vec_len, with_items}
+use Rattle.redl_opc.specs.Shape.{refusal}
 use Rattle.redl_tree.specs.Decisions.Packages.{stories, changed_package}
 use Rattle.redl_tree.specs.Model.Count.{count}
 use Rattle.redl_tree.specs.Model.Nodes.{Nodes}
@@ -34,9 +35,12 @@ invariant_of-result c =
     let said : c.in_ok-says.says.items ≡ replicate c.args.revisions Keep = search rules in
     let many : length left ≡ vec_len c.into_nodes-nodes.result = omega (arith, c.take_stories.auto.nodes, c.deref_mut.ensures.len) in
     let left_is : (with_items c.into_nodes-nodes.result left).items ≡ left = with_items_is c.into_nodes-nodes.result left many in
-    subst (λ (nodes : List Node). IsConsistent nodes kept tables c.in_ok-says.says.items) (sym left_is)
-    (subst (λ (says : List Say). IsConsistent left kept tables says) (sym said)
-    (begun-consistent c.args.revisions pkg left kept tables c.requires.numbered c.requires.plain is begun known))
+    let numbers = c.in_ok-parts.parts.items in
+    let shape : refusal pkg ≡ None = ap refusal (sym c.into_nodes-nodes.ensures.nodes) ∙ c.into_nodes-nodes.ensures.shape in
+    subst (λ (nodes : List Node). IsConsistent nodes kept tables c.in_ok-says.says.items numbers) (sym left_is)
+    (subst (λ (says : List Say). IsConsistent left kept tables says numbers) (sym said)
+    (subst (λ (ns : List ℕ). IsConsistent left kept tables (replicate c.args.revisions Keep) ns) (sym c.in_ok-parts.ensures)
+    (begun-consistent c.args.revisions pkg left kept tables shape c.requires.numbered c.requires.plain is begun known)))
 
 pub returns : goal.returns
 returns c =

@@ -45,8 +45,9 @@ invariant_of-self g c =
     let keeps = rw (c.deref_mut.ensures.value, c.deref.ensures.value, c.deref_mut-2.ensures.value) at c.set_all.ensures.kept in
     let stays = rw c.deref_mut-2.ensures.value at c.set_all.ensures.said in
     let untouched = rw c.deref_mut.ensures.value at c.set_all.ensures.untouched in
-    subst (λ (s : List Story). IsConsistent nodes s tables (with_items says c.set_all.new.says).items) (sym kept_is)
-    (subst (λ (s : List Say). IsConsistent nodes c.set_all.new.stories tables s) (sym says_is)
+    let numbers = c.self.inside.parts.items in
+    subst (λ (s : List Story). IsConsistent nodes s tables (with_items says c.set_all.new.says).items numbers) (sym kept_is)
+    (subst (λ (s : List Say). IsConsistent nodes c.set_all.new.stories tables s numbers) (sym says_is)
     (set-either nodes kept.items c.set_all.new.stories tables says.items c.set_all.new.says (map setting_of c.args.changes.now) c.set_all.result c.self.invariant said keeps stays untouched))
 
 pub returns-clause-says : goal.returns-clause-says
