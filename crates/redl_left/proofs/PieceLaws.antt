@@ -4,8 +4,8 @@ use Rattle.std.proofs.lemmas.Bool.{and_parts, eqb-true}
 use Rattle.std.proofs.lemmas.Option.{same_Some}
 use Rattle.std.specs.Prelude.{IsSome}
 use Rattle.redl_grammar.specs.declared.section.Section.TheVariants.{InElement}
-use Rattle.redl_grammar.specs.Names.{name_text}
-use Rattle.redl_grammar.specs.Pieces.{Piece, start_tag, empty_tag, end_tag, stretch, piece_then, Stands}
+use Rattle.redl_grammar.specs.Names.{Name, name_text}
+use Rattle.redl_grammar.specs.Pieces.{Piece, start_tag, empty_tag, end_tag, stretch, piece_then, IsPiece, Stands}
 use Rattle.redl_grammar.specs.References.{is_there}
 use Rattle.redl_grammar.specs.ScanPieces.{piece_at}
 use Rattle.redl_grammar.specs.Stretches.{Head, IsStretch, Item, comment, instruction, cdata, begins_item, ends_stretch, head_then, item_then, items_then}
@@ -29,7 +29,7 @@ use Rattle.redl_tree.proofs.Model.TreeTexts.{close_then, tree_then, tree-then}
 use Rattle.redl_tree.proofs.Reading.FoldLaws.{always_laid, laid_end_stretch}
 use Rattle.redl_left.specs.Finds.{Find, Table, finds, found, found_idle, found_text}
 use Rattle.redl_left.specs.Lines.{noted_all}
-use Rattle.redl_left.specs.Pieces.{ArePieces, HasPieces, IsTagText, Took, Ahead, pieces_finds, pieces_text, piece_finds}
+use Rattle.redl_left.specs.Pieces.{ArePieces, HasPieces, IsKnown, IsTagText, Took, Ahead, pieces_finds, pieces_text, piece_finds}
 use Rattle.redl_left.specs.Search.{table_of}
 use Rattle.redl_left.specs.declared.line.Line.{Line}
 use Rattle.redl_left.specs.declared.search.Search.{Search}
@@ -241,12 +241,23 @@ pub before_rest : (t : List ℕ) (piece : Piece) (rest : List ℕ) → t ≡ pie
 before_rest t piece rest e = ap (λ (w : List ℕ). before w rest) (e ∙ piece-text piece rest) ∙ before-append (piece_then piece []) rest
 
 -- a text that begins with the text of a tag begins with the tag
-pub tag_stands : (t own local tail rest : List ℕ) (k : IsTagText own local tail) → t ≡ own ++ rest → Stands InElement t k.tag rest
-tag_stands t own local tail rest k e = record {
-  whole = e ∙ ap (λ (w : List ℕ). w ++ rest) k.whole ∙ sym (piece-text k.tag rest);
+pub tag_stands : (t own rest : List ℕ) (tag : Piece) → IsTagText own tag → t ≡ own ++ rest → Stands InElement t tag rest
+tag_stands t own rest tag k e = record {
+  whole = e ∙ ap (λ (w : List ℕ). w ++ rest) k.whole ∙ sym (piece-text tag rest);
   legal = k.legal;
   follows = k.follows rest;
 }
+
+-- an end tag is no find
+pub end_is_known : (table : Table) (t : List ℕ) (piece : Piece) (name : Name) (white : List ℕ) → piece ≡ end_tag name white → t ≡ piece_then piece [] → IsPiece InElement piece
+    → IsKnown table t None
+end_is_known table t piece name white e =
+    let Known : Piece → Type 0 = λ p. t ≡ piece_then p [] → IsPiece InElement p → IsKnown table t None in
+    subst Known (sym e) (λ whole legal. record {
+      tag = end_tag name white;
+      text = record { whole = whole; legal = legal; follows = λ rest. tt };
+      finds = λ part. refl;
+    })
 
 -- ---- a stretch without comments, instructions and CDATA
 

@@ -32,20 +32,23 @@ abbrev pub pieces_finds : Table → List ℕ → List Piece → List Find
 pieces_finds table part [] = []
 pieces_finds table part (piece ∷ more) = piece_finds table part piece ++ pieces_finds table part more
 
--- the text is that of a tag that begins an element with this local name and tail
-pub record IsTagText (t local tail : List ℕ) : Type 0 where
-  pub tag : Piece
+-- the text is that of a tag
+pub record IsTagText (t : List ℕ) (tag : Piece) : Type 0 where
   pub whole : t ≡ piece_then tag []
   pub legal : IsPiece InElement tag
   pub follows : (rest : List ℕ) → Follows tag rest
+
+-- the text is that of a tag that begins an element with this local name and tail
+pub record BeginsElement (t local tail : List ℕ) : Type 0 where
+  pub tag : Piece
+  pub text : IsTagText t tag
   pub finds : (table : Table) (part : List ℕ) → piece_finds table part tag ≡ found_idle table part local tail
 
--- in each part it is a find of this fact, of which nothing more is told, or no find
+-- in each part the tag with this text is a find of this fact, of which nothing more is told, or no find
 pub record IsKnown (table : Table) (t : List ℕ) (fact : Option Fact) : Type 0 where
-  pub local : List ℕ
-  pub tail : List ℕ
-  pub text : IsTagText t local tail
-  pub finds : (part : List ℕ) → found_idle table part local tail ≡ found_member part fact
+  pub tag : Piece
+  pub text : IsTagText t tag
+  pub finds : (part : List ℕ) → piece_finds table part tag ≡ found_member part fact
 
 -- a text begins with such a tag, and goes on with this rest
 pub record BeginsKnown (table : Table) (t : List ℕ) (fact : Option Fact) (rest : List ℕ) : Type 0 where

@@ -11,7 +11,7 @@ ghost use Rattle.redl_tree.specs.declared.kinds.Space.TheVariants.{W};
 ghost use Rattle.redl_left.specs.Finds.{found_idle, found_member, found_row};
 ghost use Rattle.redl_left.specs.Known.{AreKnown};
 ghost use Rattle.redl_left.specs.Lines.{noted_all};
-ghost use Rattle.redl_left.specs.Pieces.{HasPieces, IsTagText, Took, piece_finds, pieces_finds};
+ghost use Rattle.redl_left.specs.Pieces.{BeginsElement, HasPieces, Took, piece_finds, pieces_finds};
 ghost use Rattle.redl_left.specs.Search.{table_of};
 ghost use Rattle.redl_left.specs.Seen.{tables_of};
 
@@ -82,7 +82,7 @@ fn look_tag<'t>(
     text: &'t [u8],
     seen: &mut Seen,
 ) -> Result<(), AllocError>
-    requires text { IsTagText text.now local.now tail.now }
+    requires text { BeginsElement text.now local.now tail.now }
     requires known { AreKnown (table_of below.search.now) known.now }
     ensures noted { OnOk result (tables_of seen.new ≡ noted_all (tables_of seen.old) (found_idle (table_of below.entry.search.now) below.entry.part.now local.now tail.now)) }
     ensures known { AreKnown (table_of below.entry.search.now) known.new }
@@ -96,7 +96,7 @@ fn look_tag<'t>(
     }
 }
 
-// Notes what a piece with this text is. `Err` means out of memory.
+// Notes what a piece with this text is, and keeps its tag if nothing more is told of it. `Err` means out of memory.
 fn look_new<'t>(
     known: &mut Known<'t>,
     below: Below<'_, '_, '_>,
@@ -114,7 +114,10 @@ fn look_new<'t>(
         BarePiece::Start(tag) => look_tag(known, below, tag.name().local, tag.tail(), text, seen),
         BarePiece::Empty(tag) => look_tag(known, below, tag.name().local, tag.tail(), text, seen),
         BarePiece::Stretch(bytes) => note_text(below.search, below.part, bytes, seen),
-        BarePiece::End(_, _) => Ok(()),
+        BarePiece::End(_, _) => {
+            known.keep(KnownTag { text, fact: None });
+            Ok(())
+        }
     }
 }
 

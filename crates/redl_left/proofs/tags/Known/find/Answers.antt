@@ -11,7 +11,7 @@ returns c = λ table. λ known.
     let t = c.args.bytes.now in
     let rest = c.in_ok-rest.rest.now in
     record {
-      tag = k.text.tag;
-      stands = tag_stands t tag.text.now k.local k.tail rest k.text (behind_takes tag.text.now t rest c.in_ok-rest.ensures);
-      finds = λ part. k.text.finds table part ∙ k.finds part;
+      tag = k.tag;
+      stands = tag_stands t tag.text.now rest k.tag k.text (behind_takes tag.text.now t rest c.in_ok-rest.ensures);
+      finds = k.finds;
     }
