@@ -1,4 +1,5 @@
 mod Rows
+pub mod StampLaws
 pub mod LineLaws
 pub mod CleanLaws
 pub mod TextLaws

@@ -7,3 +7,4 @@ pub mod Puts
 pub mod UnitLaws
 pub mod Taking
 pub mod Items
+pub mod Stamps

@@ -18,6 +18,7 @@ mod object;
 mod package;
 mod place;
 mod stamp_text;
+mod stamps;
 mod starts;
 mod texts;
 mod units;

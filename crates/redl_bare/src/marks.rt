@@ -1,37 +1,15 @@
 //! The marks of a unit: those round it that a document has.
 
-ghost use Rattle.std.specs.Prelude.{◌≡◌, ◌<◌, take, IfSome};
+ghost use Rattle.std.specs.Prelude.{◌≡◌, ◌<◌, IfSome};
 ghost use Rattle.arrayvec.specs.ArrayVec.{array_vec_len};
 ghost use Rattle.redl_tree.specs.Model.View.{nodes_of, item_of, tag_of, kids_of};
-ghost use Rattle.redl_bare.specs.Marks.{stamp_in, sign_of, own_change, format_mark, own_mark, is_run_change, change_in, run_change, marks_inside};
+ghost use Rattle.redl_bare.specs.Marks.{sign_of, own_change, format_mark, own_mark, is_run_change, change_in, run_change, marks_inside};
 ghost use Rattle.redl_bare.specs.Inside.Views.{stamp_view, slot_view, own_view, marks_view, without_at};
 ghost use Rattle.redl_bare.specs.Inside.Items.{item_change_in, item_change};
 
-use crate::values::value_in;
+use crate::stamps::stamp_in;
 use redl_marks::{Mark, Marks, Sign, Stamp};
 use redl_tree::{Elem, Kind, Node, Prop, Trace, Word, is_word};
-
-// The bytes of `YYYY-MM-DDThh:mm`.
-const MINUTE: usize = 16;
-
-/// The stamp in a tag's tail.
-pub(crate) fn stamp_in<'a>(tail: &'a [u8]) -> Stamp<'a>
-    ensures { stamp_view result ≡ stamp_in tail.now }
-{
-    Stamp {
-        author: value_in(tail, b"author"),
-        minute: minute_of(value_in(tail, b"date")),
-    }
-}
-
-fn minute_of(date: &[u8]) -> &[u8]
-    ensures { result.now ≡ take 16 date.now }
-{
-    if date.len() <= MINUTE {
-        return date;
-    }
-    &date[..MINUTE]
-}
 
 /// Makes marks those of what an element with these marks holds, and gives the place of the one that came to them, if one did.
 pub(crate) fn enter<'a>(marks: &mut Marks<'a>, elem: &Elem<'a>) -> Option<usize>

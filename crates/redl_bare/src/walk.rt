@@ -10,8 +10,9 @@ ghost use Rattle.redl_bare.specs.Inside.Views.{marks_view};
 
 use crate::idle::put_idle;
 use crate::line::{put_member, put_story, put_thing};
-use crate::marks::{enter, stamp_in};
+use crate::marks::enter;
 use crate::place::{BarePlace, is_left_out};
+use crate::stamps::stamp_in;
 use crate::starts::{Short, end_of, start_of};
 use crate::texts::{put_field, put_short, put_shown_texts};
 use crate::units::{Story, Thing, has_line};
