@@ -1,5 +1,6 @@
 mod Rows
 pub mod StampLaws
+pub mod StartLaws
 pub mod LineLaws
 pub mod CleanLaws
 pub mod TextLaws

@@ -25,6 +25,9 @@ pub(crate) enum Short {
 pub(crate) fn start_of(local: &[u8], tail: &[u8]) -> Short
     ensures { short_of result ≡ short_texts (tag_with local.now tail.now) }
 {
+    if shows_nothing(local) {
+        return Short::Nothing;
+    }
     if local == b"tab".as_slice() {
         return Short::Characters(b"\t");
     }
@@ -35,6 +38,13 @@ pub(crate) fn start_of(local: &[u8], tail: &[u8]) -> Short
         return Short::Characters("\u{2011}".as_bytes());
     }
     object_of(local, tail)
+}
+
+// Whether an element has one of the names that most elements have, and so shows nothing at its start.
+fn shows_nothing(local: &[u8]) -> bool
+    ensures { result ≡ is_any ("r" ∷ "t" ∷ "p" ∷ []) (of_w local.now) }
+{
+    local == b"r".as_slice() || local == b"t".as_slice() || local == b"p".as_slice()
 }
 
 /// What is shown after what is at a place.
