@@ -158,7 +158,8 @@ class Page:
             return self.cell(element)
         if element.local == "r":
             names = [name for name in "bi" if is_on(element, name)]
-            return "".join("<%s>" % it for it in names), "".join("</%s>" % it for it in reversed(names))
+            start, end = ('<span class="hidden">', "</span>") if is_on(element, "vanish") else ("", "")
+            return start + "".join("<%s>" % it for it in names), "".join("</%s>" % it for it in reversed(names)) + end
         sign = "<sup>%s</sup>" % escaped(shown(element.written_value("id") or ""))
         if element.is_w("footnoteReference", "endnoteReference"):
             return sign, ""

@@ -100,3 +100,12 @@ control = opened "sdt" (opened "sdtContent" (opened "p" no_nodes)) ⊕ opened "a
 apart : written control ≡ codes "<!--list--><p></p>\n<!--/list--><!--other--><!--/other-->"
 unfolding control attributes_of
 apart = refl
+
+-- a hidden clause, and a change of its properties
+hidden_clause : Nodes
+hidden_clause = opened "p" (opened "r" (opened "rPr" (closed "vanish" "" ⊕ closed "b" "" ⊕ member (Change props.Run) 2 "rPrChange" "" Empty no_nodes) ⊕ opened "t" (words "Waived")))
+
+shown_hidden : written hidden_clause
+    ≡ codes "<p><span class=\"hidden\"><b><span class=\"props\" data-revision=\"2\" data-author=\"Bob\">run-props</span>Waived</b></span></p>\n"
+unfolding hidden_clause digits attributes_of attribute_in attribute_at name_at word_at char_at name_end name_step may_start may_follow is_name_start is_name_character is_space equated_at quoted_at field_at quote_at is_value
+shown_hidden = refl

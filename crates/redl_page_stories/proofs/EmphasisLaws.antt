@@ -1,4 +1,4 @@
--- What is noted of the names of the properties that are on.
+-- What is noted of the letters of the properties that are on.
 use Rattle.std.proofs.Common.{◌≡◌, ◌∙◌, refl, sym, ap, ℕ, List, [], ◌++◌, Bool, true, false, ◌&&◌, ◌||◌, ◌==◌, not, codes, bytes_eq, if◌then◌else◌}
 use Rattle.std.proofs.Math.Bool.{or_assoc, or-false}
 use Rattle.std.proofs.lemmas.List.Folds.{list_any-append}
@@ -11,7 +11,7 @@ use Rattle.redl_idle.specs.Shows.{shows}
 use Rattle.redl_idle.proofs.AheadLaws.{idle_laid}
 use Rattle.redl_stamp.specs.Attribute.{written_value}
 use Rattle.redl_page_stories.specs.declared.emphasis.Level.TheVariants.{Kids, Properties, Below}
-use Rattle.redl_page_stories.specs.Inside.Emphasis.{emphasis_rule, has_byte, names_on, tag_with}
+use Rattle.redl_page_stories.specs.Inside.Emphasis.{emphasis_rule, has_byte, letters_on, tag_with}
 use Rattle.redl_page_stories.specs.Shapes.{has_property, is_off, switched_on, switches}
 
 -- ---- one tag
@@ -23,21 +23,41 @@ switches_same name tag e = ap (λ s. (is_w s && bytes_eq tag.local name) && not 
 is_same : (tag : Tag) → tag.space ≡ W → is "rPr" tag ≡ is "rPr" (of_w tag.local)
 is_same tag e = ap (λ s. is_w s && bytes_eq tag.local (codes "rPr")) e
 
-bold_noted : (tag : Tag) → has_byte 98 (names_on Properties tag) ≡ switches (codes "b") tag
-bold_noted tag = by (switches (codes "b") tag) (switches (codes "i") tag) where
-  by : (b i : Bool) → has_byte 98 ((if b then codes "b" else []) ++ (if i then codes "i" else [])) ≡ b
-  by true true = refl
-  by true false = refl
-  by false true = refl
-  by false false = refl
+hidden_noted : (tag : Tag) → has_byte 118 (letters_on Properties tag) ≡ switches (codes "vanish") tag
+hidden_noted tag = by (switches (codes "vanish") tag) (switches (codes "b") tag) (switches (codes "i") tag) where
+  by : (h b i : Bool) → has_byte 118 ((if h then codes "v" else []) ++ ((if b then codes "b" else []) ++ (if i then codes "i" else []))) ≡ h
+  by true true true = refl
+  by true true false = refl
+  by true false true = refl
+  by true false false = refl
+  by false true true = refl
+  by false true false = refl
+  by false false true = refl
+  by false false false = refl
 
-italic_noted : (tag : Tag) → has_byte 105 (names_on Properties tag) ≡ switches (codes "i") tag
-italic_noted tag = by (switches (codes "b") tag) (switches (codes "i") tag) where
-  by : (b i : Bool) → has_byte 105 ((if b then codes "b" else []) ++ (if i then codes "i" else [])) ≡ i
-  by true true = refl
-  by true false = refl
-  by false true = refl
-  by false false = refl
+bold_noted : (tag : Tag) → has_byte 98 (letters_on Properties tag) ≡ switches (codes "b") tag
+bold_noted tag = by (switches (codes "vanish") tag) (switches (codes "b") tag) (switches (codes "i") tag) where
+  by : (h b i : Bool) → has_byte 98 ((if h then codes "v" else []) ++ ((if b then codes "b" else []) ++ (if i then codes "i" else []))) ≡ b
+  by true true true = refl
+  by true true false = refl
+  by true false true = refl
+  by true false false = refl
+  by false true true = refl
+  by false true false = refl
+  by false false true = refl
+  by false false false = refl
+
+italic_noted : (tag : Tag) → has_byte 105 (letters_on Properties tag) ≡ switches (codes "i") tag
+italic_noted tag = by (switches (codes "vanish") tag) (switches (codes "b") tag) (switches (codes "i") tag) where
+  by : (h b i : Bool) → has_byte 105 ((if h then codes "v" else []) ++ ((if b then codes "b" else []) ++ (if i then codes "i" else []))) ≡ i
+  by true true true = refl
+  by true true false = refl
+  by true false true = refl
+  by true false false = refl
+  by false true true = refl
+  by false true false = refl
+  by false false true = refl
+  by false false false = refl
 
 -- ---- nodes
 
@@ -46,8 +66,8 @@ below_shows no_nodes = refl
 below_shows (bytes b rest) = below_shows rest
 below_shows (element tag kids rest) = ap (λ (l : List ℕ). (l ++ []) ++ shows emphasis_rule Below rest) (below_shows kids) ∙ below_shows rest
 
--- a name, by its byte
-module _ (byte : ℕ) (name : List ℕ) (noted : (tag : Tag) → has_byte byte (names_on Properties tag) ≡ switches name tag) where
+-- a property, by the byte of its letter
+module _ (byte : ℕ) (name : List ℕ) (noted : (tag : Tag) → has_byte byte (letters_on Properties tag) ≡ switches name tag) where
   has-append : (xs ys : List ℕ) → has_byte byte (xs ++ ys) ≡ (has_byte byte xs || has_byte byte ys)
   has-append xs ys = list_any-append (λ b. b == byte) xs ys
 
@@ -55,7 +75,7 @@ module _ (byte : ℕ) (name : List ℕ) (noted : (tag : Tag) → has_byte byte (
   properties_note no_nodes h = refl
   properties_note (bytes b rest) h = properties_note rest h.2
   properties_note (element tag kids rest) h =
-      let own = names_on Properties (tag_with tag.local tag.tail) in
+      let own = letters_on Properties (tag_with tag.local tag.tail) in
       let later = shows emphasis_rule Properties rest in
       ap (λ (l : List ℕ). has_byte byte ((own ++ (l ++ [])) ++ later)) (below_shows kids)
       ∙ has-append (own ++ []) later
@@ -78,11 +98,17 @@ module _ (byte : ℕ) (name : List ℕ) (noted : (tag : Tag) → has_byte byte (
       ∙ ap (λ p. (p && switched_on name kids) || has_byte byte later) (sym (is_same tag h.0.of_space))
       ∙ ap (λ b. (is "rPr" tag && switched_on name kids) || b) (run_notes rest h.3)
 
+pub hidden_in_run : (nodes : Nodes) → AreLaid W nodes → has_byte 118 (shows emphasis_rule Kids nodes) ≡ has_property (codes "vanish") nodes
+hidden_in_run nodes h = run_notes 118 (codes "vanish") hidden_noted nodes h
+
 pub bold_in_run : (nodes : Nodes) → AreLaid W nodes → has_byte 98 (shows emphasis_rule Kids nodes) ≡ has_property (codes "b") nodes
 bold_in_run nodes h = run_notes 98 (codes "b") bold_noted nodes h
 
 pub italic_in_run : (nodes : Nodes) → AreLaid W nodes → has_byte 105 (shows emphasis_rule Kids nodes) ≡ has_property (codes "i") nodes
 italic_in_run nodes h = run_notes 105 (codes "i") italic_noted nodes h
+
+pub hidden_idle : (t : List ℕ) → has_byte 118 (shows emphasis_rule Properties (idle_nodes t)) ≡ switched_on (codes "vanish") (idle_nodes t)
+hidden_idle t = properties_note 118 (codes "vanish") hidden_noted (idle_nodes t) (idle_laid t)
 
 pub bold_idle : (t : List ℕ) → has_byte 98 (shows emphasis_rule Properties (idle_nodes t)) ≡ switched_on (codes "b") (idle_nodes t)
 bold_idle t = properties_note 98 (codes "b") bold_noted (idle_nodes t) (idle_laid t)

@@ -21,7 +21,7 @@ use Rattle.redl_page_stories.specs.declared.shape.Shape.TheVariants as shape
 use Rattle.redl_page_stories.specs.Document.{bytes_pieces, element_pieces, end_as, inside, marks_in, nodes_pieces, start_as}
 use Rattle.redl_page_stories.specs.Inside.Idle.{behind_idle, idle_within, idle_named, idle_place, idle_shape, idle_start, idle_text, page_rule}
 use Rattle.redl_html.specs.Pieces.{own, pieces_text}
-use Rattle.redl_page_stories.specs.Shapes.{behind_opening, closing, has_property, holds_blocks, holds_list, inline_named, inline_shape, is_foreign, is_note, is_other, is_other_form, is_paragraph, is_reference, opening, run_shape, shape_named, shape_of}
+use Rattle.redl_page_stories.specs.Shapes.{behind_opening, closing, has_property, hidden_shape, holds_blocks, holds_list, inline_named, inline_shape, is_foreign, is_note, is_other, is_other_form, is_paragraph, is_reference, opening, run_shape, set_shape, shape_named, shape_of}
 use Rattle.redl_page_stories.proofs.PastLaws.{no_other, other_none}
 use Rattle.redl_html.proofs.PieceLaws.{pieces_text-append}
 use Rattle.redl_page_stories.proofs.NodeLaws.{element_text-by, shape_end-text}
@@ -62,7 +62,7 @@ inline_same reference in_run tag i =
 -- it is shown as its local name says
 named_same : (in_run : Bool) (tag : Tag) (kids : Nodes) → Idle in_run tag → shape_named tag kids ≡ idle_named tag.local kids
 named_same in_run tag kids i =
-    let run = run_shape (has_property (codes "b") kids) (has_property (codes "i") kids) in
+    let run = run_shape kids in
     let para = if holds_blocks kids then shape.Division else shape.Paragraph in
     let inline = inline_named tag in
     let after_list = λ (l : Bool). if l then shape.Blocks else if is_foreign tag then shape.Foreign else inline in
@@ -103,18 +103,25 @@ inline_none false false false false true reference = refl
 inline_none false false false false false true = refl
 inline_none false false false false false false = refl
 
-run_none : (bold italic : Bool) → tells_kids (run_shape bold italic) ≡ false
-run_none false false = refl
-run_none true false = refl
-run_none false true = refl
-run_none true true = refl
+set_none : (hidden bold italic : Bool) → tells_kids (if hidden then hidden_shape bold italic else set_shape bold italic) ≡ false
+set_none false false false = refl
+set_none false true false = refl
+set_none false false true = refl
+set_none false true true = refl
+set_none true false false = refl
+set_none true true false = refl
+set_none true false true = refl
+set_none true true true = refl
+
+run_none : (kids : Nodes) → tells_kids (run_shape kids) ≡ false
+run_none kids = set_none (has_property (codes "vanish") kids) (has_property (codes "b") kids) (has_property (codes "i") kids)
 
 kids_none : (loud : Bool) (local : List ℕ) (kids : Nodes) → tells_kids (idle_shape loud local kids) ≡ false
 kids_none loud local kids = by loud (is "r" (of_w local)) where
   by : (loud run : Bool) →
-      tells_kids (if loud then (if run then run_shape (has_property (codes "b") kids) (has_property (codes "i") kids) else inline_shape (is_reference (of_w local)) (of_w local)) else shape.Nothing) ≡ false
+      tells_kids (if loud then (if run then run_shape kids else inline_shape (is_reference (of_w local)) (of_w local)) else shape.Nothing) ≡ false
   by false run = refl
-  by true true = run_none (has_property (codes "b") kids) (has_property (codes "i") kids)
+  by true true = run_none kids
   by true false =
       inline_none (is "tab" (of_w local)) (is "br" (of_w local) || is "cr" (of_w local)) (is "noBreakHyphen" (of_w local)) (is "sym" (of_w local))
       (is "drawing" (of_w local) || is "pict" (of_w local) || is "object" (of_w local)) (is_reference (of_w local))

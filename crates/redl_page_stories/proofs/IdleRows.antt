@@ -29,3 +29,13 @@ run = refl
 in_properties : idle_text (record { loud = false; shows = false }) (opened "r" price) ≡ []
 unfolding price
 in_properties = refl
+
+-- hidden and italic, and one that its text says is not hidden
+secret : Nodes
+secret =
+    opened "r" (opened "rPr" (closed "i" "" ⊕ closed "vanish" "") ⊕ opened "t" (words "and costs"))
+    ⊕ opened "r" (opened "rPr" (closed "vanish" " w:val=\"false\"") ⊕ opened "t" (words "."))
+
+hidden : idle_text (record { loud = true; shows = false }) secret ≡ codes "<span class=\"hidden\"><i>and costs</i></span>."
+unfolding secret attributes_of attribute_in attribute_at name_at word_at char_at name_end name_step may_start may_follow is_name_start is_name_character is_space equated_at quoted_at field_at quote_at is_value
+hidden = refl

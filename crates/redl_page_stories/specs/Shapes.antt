@@ -1,6 +1,6 @@
 -- How elements are shown that are in no revision (ECMA-376 Part 1, 17.3, 17.4 and 17.11; HTML, the living standard; our own rule):
--- by their names, where no ancestor holds properties. Of properties, bold and italic runs are shown, the style and the direction of a
--- paragraph, and which cells are merged.
+-- by their names, where no ancestor holds properties. Of properties, hidden, bold and italic runs are shown, the style and the direction
+-- of a paragraph, and which cells are merged.
 use Prim.Native.String.{String}
 use Rattle.std.specs.Prelude.{ℕ, Bool, true, false, ◌&&◌, ◌||◌, not, List, [], ◌∷◌, ◌++◌, Option, Some, None, unwrap_or, bytes_eq, codes, encode_utf8, is_some, nat_le, nat_lt, if◌then◌else◌}
 use Rattle.std.specs.Option.{option_or}
@@ -15,7 +15,7 @@ use Rattle.redl_grammar.specs.References.{reference_at}
 use Rattle.redl_page_stories.specs.declared.values.Property.{Property}
 use Rattle.redl_page_stories.specs.declared.values.Property.TheVariants.{Style, Direction, Span, Merge}
 use Rattle.redl_page_stories.specs.declared.shape.Shape.{Shape}
-use Rattle.redl_page_stories.specs.declared.shape.Shape.TheVariants.{Nothing, Paragraph, Division, Table, Row, Cell, TextBox, Bold, Italic, BoldItalic, Tab, Break, Hyphen, Symbol, Picture, Reference, Note, Blocks, Foreign, OtherForm}
+use Rattle.redl_page_stories.specs.declared.shape.Shape.TheVariants.{Nothing, Paragraph, Division, Table, Row, Cell, TextBox, Bold, Italic, BoldItalic, Hidden, HiddenBold, HiddenItalic, HiddenBoldItalic, Tab, Break, Hyphen, Symbol, Picture, Reference, Note, Blocks, Foreign, OtherForm}
 
 abbrev pub is_other : Space → Bool
 is_other Other = true
@@ -35,7 +35,7 @@ holds_blocks no_nodes = false
 holds_blocks (bytes b rest) = holds_blocks rest
 holds_blocks (element tag kids rest) = is_block tag || holds_blocks kids || holds_blocks rest
 
--- ---- bold and italic runs
+-- ---- hidden, bold and italic runs
 
 -- the value switches a property off (ECMA-376 Part 1, 17.17.4)
 abbrev pub is_off : Option (List ℕ) → Bool
@@ -59,11 +59,24 @@ has_property name (bytes b rest) = has_property name rest
 has_property name (element tag kids rest) = (is "rPr" tag && switched_on name kids) || has_property name rest
 
 -- a run that is bold or not, and italic or not (17.3.2.1 and 17.3.2.16)
-abbrev pub run_shape : Bool → Bool → Shape
-run_shape false false = Nothing
-run_shape true false = Bold
-run_shape false true = Italic
-run_shape true true = BoldItalic
+abbrev pub set_shape : Bool → Bool → Shape
+set_shape false false = Nothing
+set_shape true false = Bold
+set_shape false true = Italic
+set_shape true true = BoldItalic
+
+-- the same of a hidden run (17.3.2.41)
+abbrev pub hidden_shape : Bool → Bool → Shape
+hidden_shape false false = Hidden
+hidden_shape true false = HiddenBold
+hidden_shape false true = HiddenItalic
+hidden_shape true true = HiddenBoldItalic
+
+-- a run with these kids
+abbrev pub run_shape : Nodes → Shape
+run_shape kids =
+    if has_property (codes "vanish") kids then hidden_shape (has_property (codes "b") kids) (has_property (codes "i") kids)
+    else set_shape (has_property (codes "b") kids) (has_property (codes "i") kids)
 
 -- ---- notes
 
@@ -105,7 +118,7 @@ inline_named tag = inline_shape (is_reference tag) tag
 abbrev pub shape_named : Tag → Nodes → Shape
 shape_named tag kids =
     if is "p" tag then (if holds_blocks kids then Division else Paragraph)
-    else if is "r" tag then run_shape (has_property (codes "b") kids) (has_property (codes "i") kids)
+    else if is "r" tag then run_shape kids
     else if is "tbl" tag then Table
     else if is "tr" tag then Row
     else if is "tc" tag then Cell
@@ -133,6 +146,10 @@ opening TextBox = "<span class=\"box\">"
 opening Bold = "<b>"
 opening Italic = "<i>"
 opening BoldItalic = "<b><i>"
+opening Hidden = "<span class=\"hidden\">"
+opening HiddenBold = "<span class=\"hidden\"><b>"
+opening HiddenItalic = "<span class=\"hidden\"><i>"
+opening HiddenBoldItalic = "<span class=\"hidden\"><b><i>"
 opening Tab = "\t"
 opening Break = "<br>"
 opening Hyphen = "&#8209;"
@@ -156,6 +173,10 @@ closing TextBox = "</span>"
 closing Bold = "</b>"
 closing Italic = "</i>"
 closing BoldItalic = "</i></b>"
+closing Hidden = "</span>"
+closing HiddenBold = "</b></span>"
+closing HiddenItalic = "</i></span>"
+closing HiddenBoldItalic = "</i></b></span>"
 closing Tab = ""
 closing Break = ""
 closing Hyphen = ""

@@ -5,7 +5,7 @@ ghost use Rattle.redl_tree.specs.Model.View.{nodes_of, item_of, tag_of, kids_of}
 ghost use Rattle.redl_tree.specs.Roles.Names.{is, of_w};
 ghost use Rattle.redl_idle.specs.Ahead.{Begins};
 ghost use Rattle.redl_page_stories.specs.Inside.Idle.{idle_shape};
-ghost use Rattle.redl_page_stories.specs.Shapes.{closing, has_property, holds_blocks, holds_list, inline_named, inline_shape, is_block, is_foreign, is_note, is_other_form, is_paragraph, is_reference, opening, run_shape, shape_named, shape_of};
+ghost use Rattle.redl_page_stories.specs.Shapes.{closing, hidden_shape, holds_blocks, holds_list, inline_named, inline_shape, is_block, is_foreign, is_note, is_other_form, is_paragraph, is_reference, opening, run_shape, set_shape, shape_named, shape_of};
 ghost use Rattle.redl_page_stories.specs.Inside.Items.{item_holds};
 
 use crate::emphasis::Emphasis;
@@ -29,12 +29,20 @@ pub(crate) enum Shape {
     Cell,
     /// What a text box holds.
     TextBox,
-    /// A run, by how it is set.
+    /// A run in bold.
     Bold,
     /// A run in italics.
     Italic,
     /// A run in bold italics.
     BoldItalic,
+    /// A hidden run.
+    Hidden,
+    /// A hidden run in bold.
+    HiddenBold,
+    /// A hidden run in italics.
+    HiddenItalic,
+    /// A hidden run in bold italics.
+    HiddenBoldItalic,
     /// A tabulator.
     Tab,
     /// A break of a line, a column or a page.
@@ -122,16 +130,36 @@ impl Shape {
     }
 
     fn of_run(elem: &Elem) -> Shape
-        ensures { result ≡ run_shape (has_property (codes "b") (kids_of elem.now)) (has_property (codes "i") (kids_of elem.now)) }
+        ensures { result ≡ run_shape (kids_of elem.now) }
     {
         Shape::set(Emphasis::of_run(elem.kids()))
     }
 
     // The shape of a run that is set so.
     fn set(emphasis: Emphasis) -> Shape
-        ensures { result ≡ run_shape emphasis.bold emphasis.italic }
+        ensures { result ≡ (if emphasis.hidden then hidden_shape emphasis.bold emphasis.italic else set_shape emphasis.bold emphasis.italic) }
     {
-        match (emphasis.bold, emphasis.italic) {
+        if emphasis.hidden {
+            return Shape::hidden(emphasis.bold, emphasis.italic);
+        }
+        Shape::seen(emphasis.bold, emphasis.italic)
+    }
+
+    fn hidden(bold: bool, italic: bool) -> Shape
+        ensures { result ≡ hidden_shape bold italic }
+    {
+        match (bold, italic) {
+            (false, false) => Shape::Hidden,
+            (true, false) => Shape::HiddenBold,
+            (false, true) => Shape::HiddenItalic,
+            (true, true) => Shape::HiddenBoldItalic,
+        }
+    }
+
+    fn seen(bold: bool, italic: bool) -> Shape
+        ensures { result ≡ set_shape bold italic }
+    {
+        match (bold, italic) {
             (false, false) => Shape::Nothing,
             (true, false) => Shape::Bold,
             (false, true) => Shape::Italic,
@@ -210,6 +238,10 @@ impl Shape {
             Shape::Bold => b"<b>",
             Shape::Italic => b"<i>",
             Shape::BoldItalic => b"<b><i>",
+            Shape::Hidden => b"<span class=\"hidden\">",
+            Shape::HiddenBold => b"<span class=\"hidden\"><b>",
+            Shape::HiddenItalic => b"<span class=\"hidden\"><i>",
+            Shape::HiddenBoldItalic => b"<span class=\"hidden\"><b><i>",
             Shape::Tab => b"\t",
             Shape::Break => b"<br>",
             Shape::Hyphen => b"&#8209;",
@@ -237,6 +269,10 @@ impl Shape {
             Shape::Bold => b"</b>",
             Shape::Italic => b"</i>",
             Shape::BoldItalic => b"</i></b>",
+            Shape::Hidden => b"</span>",
+            Shape::HiddenBold => b"</b></span>",
+            Shape::HiddenItalic => b"</i></span>",
+            Shape::HiddenBoldItalic => b"</i></b></span>",
             Shape::OtherForm => b"</details>",
             Shape::Nothing => b"",
             Shape::Tab => b"",

@@ -11,12 +11,12 @@ use Rattle.redl_page_stories.specs.declared.shape.Shape.{Shape}
 use Rattle.redl_page_stories.specs.declared.shape.Shape.TheVariants.{Nothing, Symbol, Reference, Note}
 use Rattle.redl_page_stories.specs.Document.{bytes_pieces}
 use Rattle.redl_html.specs.Pieces.{HtmlPiece, own, pieces_text}
-use Rattle.redl_page_stories.specs.Shapes.{closing, has_property, inline_shape, is_reference, note_pieces, opening, run_shape, symbol_pieces}
+use Rattle.redl_page_stories.specs.Shapes.{closing, inline_shape, is_reference, note_pieces, opening, run_shape, symbol_pieces}
 
 -- what an idle element with this local name and these kids is shown as, by its name
 abbrev pub idle_named : List ℕ → Nodes → Shape
 idle_named local kids =
-    if is "r" (of_w local) then run_shape (has_property (codes "b") kids) (has_property (codes "i") kids)
+    if is "r" (of_w local) then run_shape kids
     else inline_shape (is_reference (of_w local)) (of_w local)
 
 -- the same where no ancestor holds properties, and else nothing

@@ -3,13 +3,13 @@
 const NO_WORDS = "a, details, sup, .picture, .mark, .row, .cell, .props";
 
 // The texts of a block on one side of a place, or inside it, until there are so many characters: each with the change that
-// it stands in.
+// it stands in, and whether it is hidden.
 function piecesFrom(walker, next, isIn, most) {
   const pieces = [];
   for (let node = walker[next](), length = 0; node && isIn(node) && length < most; node = walker[next]()) {
     const other = node.parentElement.closest(NO_WORDS);
     if (other && walker.root.contains(other)) continue;
-    pieces.push({ text: node.data.replace(/[\t\n ]+/g, " "), change: changeOf(node, walker.root) });
+    pieces.push({ text: node.data.replace(/[\t\n ]+/g, " "), change: changeOf(node, walker.root), isHidden: node.parentElement.closest(".hidden") !== null });
     length += pieces.at(-1).text.length;
   }
   return pieces;
@@ -43,18 +43,20 @@ function lastIn(node) {
 function cutPieces(pieces, most, isFromEnd = false) {
   let left = most;
   const kept = [];
-  for (const { text, change } of isFromEnd ? [...pieces].reverse() : pieces) {
+  for (const piece of isFromEnd ? [...pieces].reverse() : pieces) {
+    const { text } = piece;
     const cut = text.length <= left ? text : isFromEnd ? "\u2026" + text.slice(-left).replace(/^\S*\s/, "") : text.slice(0, left).replace(/\s\S*$/, "") + "\u2026";
-    kept.push({ text: cut, change });
+    kept.push({ ...piece, text: cut });
     left -= text.length;
     if (left <= 0) break;
   }
   return isFromEnd ? kept.reverse() : kept;
 }
 
-// A piece as it looks in the document: inserted, deleted, or neither.
-function shownPiece({ text, change }) {
-  return change ? make(change.localName, { "data-author": change.dataset.author }, ...signed(text)) : make("span", {}, ...signed(text));
+// A piece as it looks in the document: inserted, deleted, or neither, and hidden or not.
+function shownPiece({ text, change, isHidden }) {
+  const className = isHidden ? "hidden" : "";
+  return change ? make(change.localName, { className, "data-author": change.dataset.author }, ...signed(text)) : make("span", { className }, ...signed(text));
 }
 
 function textOf(pieces) {
@@ -83,7 +85,7 @@ function excerpt(row) {
     return made;
   }
   const [before, inside, after] = piecesAround(place);
-  const words = textOf(inside).trim() ? cutPieces(inside, 120).map((it) => (it.change === place ? { text: it.text } : it)) : [{ text: sign }];
+  const words = textOf(inside).trim() ? cutPieces(inside, 120).map((it) => (it.change === place ? { ...it, change: null } : it)) : [{ text: sign }];
   made.append(...cutPieces(before, 32, true).map(shownPiece),
     make(place.localName, { className: "own" }, ...words.map(shownPiece)),
     ...cutPieces(after, 32).map(shownPiece));

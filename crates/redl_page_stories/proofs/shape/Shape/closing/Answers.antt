@@ -47,6 +47,18 @@ returns-in-Italic c = rw c.in-Italic.is refl
 pub returns-in-BoldItalic : goal.returns-in-BoldItalic
 returns-in-BoldItalic c = rw c.in-BoldItalic.is refl
 
+pub returns-in-Hidden : goal.returns-in-Hidden
+returns-in-Hidden c = rw c.in-Hidden.is refl
+
+pub returns-in-HiddenBold : goal.returns-in-HiddenBold
+returns-in-HiddenBold c = rw c.in-HiddenBold.is refl
+
+pub returns-in-HiddenItalic : goal.returns-in-HiddenItalic
+returns-in-HiddenItalic c = rw c.in-HiddenItalic.is refl
+
+pub returns-in-HiddenBoldItalic : goal.returns-in-HiddenBoldItalic
+returns-in-HiddenBoldItalic c = rw c.in-HiddenBoldItalic.is refl
+
 pub returns-in-Note : goal.returns-in-Note
 returns-in-Note c = rw c.in-Note.is refl
 
