@@ -166,6 +166,8 @@ class Page:
         if element.is_w("sdt", "customXml", "footnote", "endnote", "comment"):
             is_note = element.is_w("footnote", "endnote") and element.attribute("type") is None
             return "<!--list-->" + (sign if is_note else ""), "<!--/list-->"
+        if element.is_w("br", "cr"):
+            return "<br>" + ENDS.get(element.written_value("type"), ""), ""
         if element.local == "sym":
             return symbol(element.written_value("char") or ""), ""
         return FIXED.get(element.local, ("", ""))
@@ -242,14 +244,15 @@ def rank_of(entry):
     return entry[4] if len(entry) > 4 else 0
 
 
+ENDS = {"page": '<span class="page-end"></span>', "column": '<span class="column-end"></span>'}
+
 FIXED = {
     "tbl": ("<table>\n", "</table>\n"),
     "tr": ("<tr>", "</tr>\n"),
     "txbxContent": ('<span class="box">', "</span>"),
     "tab": ("\t", ""),
-    "br": ("<br>", ""),
-    "cr": ("<br>", ""),
     "noBreakHyphen": ("&#8209;", ""),
+    "softHyphen": ("&#173;", ""),
     "drawing": ('<span class="picture">picture</span>', ""),
     "pict": ('<span class="picture">picture</span>', ""),
     "object": ('<span class="picture">picture</span>', ""),

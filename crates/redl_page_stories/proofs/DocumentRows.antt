@@ -53,7 +53,7 @@ change : Nodes
 change = opened "p" (opened "r" (opened "rPr" (member (Change props.Run) 2 "rPrChange" "" Empty no_nodes) ⊕ closed "tab" "" ⊕ opened "t" (words "x") ⊕ closed "br" ""))
 
 properties : written change ≡ codes "<p><span class=\"props\" data-revision=\"2\" data-author=\"Bob\">run-props</span>\tx<br></p>\n"
-unfolding change digits
+unfolding change digits attributes_of attribute_in
 properties = refl
 
 -- a text box in a paragraph, and text that is no element of a text

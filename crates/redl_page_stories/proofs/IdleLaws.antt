@@ -54,6 +54,7 @@ inline_same reference in_run tag i =
     by_local (λ w local. if (w && bytes_eq local (codes "tab")) then shape.Tab
     else if ((w && bytes_eq local (codes "br")) || (w && bytes_eq local (codes "cr"))) then shape.Break
     else if (w && bytes_eq local (codes "noBreakHyphen")) then shape.Hyphen
+    else if (w && bytes_eq local (codes "softHyphen")) then shape.SoftHyphen
     else if (w && bytes_eq local (codes "sym")) then shape.Symbol
     else if ((w && bytes_eq local (codes "drawing")) || (w && bytes_eq local (codes "pict")) || (w && bytes_eq local (codes "object"))) then shape.Picture
     else if reference then shape.Reference
@@ -93,15 +94,16 @@ tells_kids shape.Cell = true
 tells_kids _ = false
 
 -- that is none of them
-inline_none : (tab line hyphen symbol picture reference : Bool) →
-    tells_kids (if tab then shape.Tab else if line then shape.Break else if hyphen then shape.Hyphen else if symbol then shape.Symbol else if picture then shape.Picture else if reference then shape.Reference else shape.Nothing) ≡ false
-inline_none true line hyphen symbol picture reference = refl
-inline_none false true hyphen symbol picture reference = refl
-inline_none false false true symbol picture reference = refl
-inline_none false false false true picture reference = refl
-inline_none false false false false true reference = refl
-inline_none false false false false false true = refl
-inline_none false false false false false false = refl
+inline_none : (tab line hyphen soft symbol picture reference : Bool) →
+    tells_kids (if tab then shape.Tab else if line then shape.Break else if hyphen then shape.Hyphen else if soft then shape.SoftHyphen else if symbol then shape.Symbol else if picture then shape.Picture else if reference then shape.Reference else shape.Nothing) ≡ false
+inline_none true line hyphen soft symbol picture reference = refl
+inline_none false true hyphen soft symbol picture reference = refl
+inline_none false false true soft symbol picture reference = refl
+inline_none false false false true symbol picture reference = refl
+inline_none false false false false true picture reference = refl
+inline_none false false false false false true reference = refl
+inline_none false false false false false false true = refl
+inline_none false false false false false false false = refl
 
 set_none : (hidden bold italic : Bool) → tells_kids (if hidden then hidden_shape bold italic else set_shape bold italic) ≡ false
 set_none false false false = refl
@@ -123,7 +125,7 @@ kids_none loud local kids = by loud (is "r" (of_w local)) where
   by false run = refl
   by true true = run_none kids
   by true false =
-      inline_none (is "tab" (of_w local)) (is "br" (of_w local) || is "cr" (of_w local)) (is "noBreakHyphen" (of_w local)) (is "sym" (of_w local))
+      inline_none (is "tab" (of_w local)) (is "br" (of_w local) || is "cr" (of_w local)) (is "noBreakHyphen" (of_w local)) (is "softHyphen" (of_w local)) (is "sym" (of_w local))
       (is "drawing" (of_w local) || is "pict" (of_w local) || is "object" (of_w local)) (is_reference (of_w local))
 
 -- and so no paragraph

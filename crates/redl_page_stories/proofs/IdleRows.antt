@@ -39,3 +39,11 @@ secret =
 hidden : idle_text (record { loud = true; shows = false }) secret ≡ codes "<span class=\"hidden\"><i>and costs</i></span>."
 unfolding secret attributes_of attribute_in attribute_at name_at word_at char_at name_end name_step may_start may_follow is_name_start is_name_character is_space equated_at quoted_at field_at quote_at is_value
 hidden = refl
+
+-- a page ends, and a line; between them a hyphen that a line may break at
+breaks : Nodes
+breaks = opened "r" (closed "br" " w:type=\"page\"" ⊕ opened "t" (words "co") ⊕ closed "softHyphen" "" ⊕ opened "t" (words "op") ⊕ closed "br" " w:type=\"textWrapping\"" ⊕ closed "cr" "")
+
+shown_breaks : idle_text (record { loud = true; shows = false }) breaks ≡ codes "<br><span class=\"page-end\"></span>co&#173;op<br><br>"
+unfolding breaks attributes_of attribute_in attribute_at name_at word_at char_at name_end name_step may_start may_follow is_name_start is_name_character is_space equated_at quoted_at field_at quote_at is_value
+shown_breaks = refl

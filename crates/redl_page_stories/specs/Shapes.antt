@@ -15,7 +15,7 @@ use Rattle.redl_grammar.specs.References.{reference_at}
 use Rattle.redl_page_stories.specs.declared.values.Property.{Property}
 use Rattle.redl_page_stories.specs.declared.values.Property.TheVariants.{Style, Direction, Span, Merge}
 use Rattle.redl_page_stories.specs.declared.shape.Shape.{Shape}
-use Rattle.redl_page_stories.specs.declared.shape.Shape.TheVariants.{Nothing, Paragraph, Division, Table, Row, Cell, TextBox, Bold, Italic, BoldItalic, Hidden, HiddenBold, HiddenItalic, HiddenBoldItalic, Tab, Break, Hyphen, Symbol, Picture, Reference, Note, Blocks, Foreign, OtherForm}
+use Rattle.redl_page_stories.specs.declared.shape.Shape.TheVariants.{Nothing, Paragraph, Division, Table, Row, Cell, TextBox, Bold, Italic, BoldItalic, Hidden, HiddenBold, HiddenItalic, HiddenBoldItalic, Tab, Break, Hyphen, SoftHyphen, Symbol, Picture, Reference, Note, Blocks, Foreign, OtherForm}
 
 abbrev pub is_other : Space → Bool
 is_other Other = true
@@ -106,6 +106,7 @@ inline_shape reference tag =
     if is "tab" tag then Tab
     else if is "br" tag || is "cr" tag then Break
     else if is "noBreakHyphen" tag then Hyphen
+    else if is "softHyphen" tag then SoftHyphen
     else if is "sym" tag then Symbol
     else if is "drawing" tag || is "pict" tag || is "object" tag then Picture
     else if reference then Reference
@@ -153,6 +154,7 @@ opening HiddenBoldItalic = "<span class=\"hidden\"><b><i>"
 opening Tab = "\t"
 opening Break = "<br>"
 opening Hyphen = "&#8209;"
+opening SoftHyphen = "&#173;"
 opening Picture = "<span class=\"picture\">picture</span>"
 opening Symbol = "<span class=\"symbol\">"
 opening Reference = "<sup>"
@@ -180,6 +182,7 @@ closing HiddenBoldItalic = "</i></b></span>"
 closing Tab = ""
 closing Break = ""
 closing Hyphen = ""
+closing SoftHyphen = ""
 closing Picture = ""
 closing Symbol = ""
 closing Reference = ""
@@ -258,6 +261,16 @@ abbrev pub note_pieces : Option (List ℕ) → List HtmlPiece
 note_pieces None = own "</sup>" ∷ []
 note_pieces (Some id) = outside (shown id) ∷ own "</sup>" ∷ []
 
+-- ---- breaks
+
+-- where a page or a column ends, in place of a line alone (17.3.3.1 and 17.18.3)
+abbrev pub break_pieces : Option (List ℕ) → List HtmlPiece
+break_pieces None = []
+break_pieces (Some sort) =
+    if bytes_eq sort (codes "page") then own "<span class=\"page-end\"></span>" ∷ []
+    else if bytes_eq sort (codes "column") then own "<span class=\"column-end\"></span>" ∷ []
+    else []
+
 -- ---- symbols
 
 -- a character that fonts agree on: no control character, and none for private use
@@ -297,6 +310,7 @@ abbrev pub behind_opening : Shape → Tag → Nodes → List HtmlPiece
 behind_opening Paragraph tag kids = paragraph_pieces kids
 behind_opening Division tag kids = paragraph_pieces kids
 behind_opening Cell tag kids = cell_pieces kids
+behind_opening Break tag kids = break_pieces (written_value tag.tail (codes "type"))
 behind_opening Symbol tag kids = symbol_pieces (written_value tag.tail (codes "char"))
 behind_opening Reference tag kids = note_pieces (written_value tag.tail (codes "id"))
 behind_opening Note tag kids = note_pieces (written_value tag.tail (codes "id"))

@@ -16,7 +16,7 @@ use crate::place::PageSummary;
 use crate::shape::Shape;
 use crate::shown::put_bytes;
 use crate::sign::{content_end, put_edge, put_member};
-use crate::starts::{put_cell_start, put_paragraph_start, put_symbol};
+use crate::starts::{put_break, put_cell_start, put_paragraph_start, put_symbol};
 use crate::values::{put_note, written_value};
 use redl_index::Index;
 use redl_io::{Failed, Sink, put_piece};
@@ -93,7 +93,7 @@ fn put_opening<K: Sink>(shape: Shape, elem: &Elem, out: &mut K) -> Result<(), Fa
     put_behind_opening(shape, elem, out)
 }
 
-// Puts what comes behind the opening of a paragraph, a cell, a symbol or a note.
+// Puts what comes behind the opening of a paragraph, a cell, a break, a symbol or a note.
 fn put_behind_opening<K: Sink>(shape: Shape, elem: &Elem, out: &mut K) -> Result<(), Failed>
     ensures { Puts K.told K.faults K.settled K.lenders out.old out.new (pieces_text (behind_opening shape (tag_of elem.now) (kids_of elem.now))) result }
 {
@@ -101,6 +101,7 @@ fn put_behind_opening<K: Sink>(shape: Shape, elem: &Elem, out: &mut K) -> Result
         Shape::Paragraph => put_paragraph_start(elem.kids(), out),
         Shape::Division => put_paragraph_start(elem.kids(), out),
         Shape::Cell => put_cell_start(elem.kids(), out),
+        Shape::Break => put_break(written_value(elem.tail(), b"type"), out),
         Shape::Symbol => put_symbol(written_value(elem.tail(), b"char"), out),
         Shape::Reference => put_note(written_value(elem.tail(), b"id"), out),
         Shape::Note => put_note(written_value(elem.tail(), b"id"), out),

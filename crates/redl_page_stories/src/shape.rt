@@ -49,6 +49,8 @@ pub(crate) enum Shape {
     Break,
     /// A hyphen at which no line breaks.
     Hyphen,
+    /// A hyphen that is seen only where a line breaks at it.
+    SoftHyphen,
     /// A character of a font of symbols.
     Symbol,
     /// A picture, a drawing or an object.
@@ -189,6 +191,9 @@ impl Shape {
         if local == b"noBreakHyphen".as_slice() {
             return Shape::Hyphen;
         }
+        if local == b"softHyphen".as_slice() {
+            return Shape::SoftHyphen;
+        }
         if local == b"sym".as_slice() {
             return Shape::Symbol;
         }
@@ -245,6 +250,7 @@ impl Shape {
             Shape::Tab => b"\t",
             Shape::Break => b"<br>",
             Shape::Hyphen => b"&#8209;",
+            Shape::SoftHyphen => b"&#173;",
             Shape::Picture => b"<span class=\"picture\">picture</span>",
             Shape::Symbol => b"<span class=\"symbol\">",
             Shape::Reference => b"<sup>",
@@ -278,6 +284,7 @@ impl Shape {
             Shape::Tab => b"",
             Shape::Break => b"",
             Shape::Hyphen => b"",
+            Shape::SoftHyphen => b"",
             Shape::Symbol => b"",
             Shape::Picture => b"",
             Shape::Reference => b"",

@@ -1,11 +1,11 @@
-//! What comes after the opening of a paragraph, of a cell and of a symbol.
+//! What comes after the opening of a paragraph, of a cell, of a break and of a symbol.
 
 ghost use Rattle.std.specs.Prelude.{◌≡◌, Some, option_map};
 ghost use Rattle.redl_io.specs.Sink.{Puts};
 ghost use Rattle.redl_grammar.specs.References.{reference_at};
 ghost use Rattle.redl_tree.specs.Model.View.{nodes_of};
 ghost use Rattle.redl_html.specs.Pieces.{piece_text, pieces_text};
-ghost use Rattle.redl_page_stories.specs.Shapes.{cell_pieces, character_piece, direction_pieces, is_agreed, merge_pieces, numbered, paragraph_pieces, referenced, span_pieces, symbol_piece, symbol_pieces};
+ghost use Rattle.redl_page_stories.specs.Shapes.{break_pieces, cell_pieces, character_piece, direction_pieces, is_agreed, merge_pieces, numbered, paragraph_pieces, referenced, span_pieces, symbol_piece, symbol_pieces};
 
 use crate::emphasis::is_off;
 use crate::shown::put_shown;
@@ -91,6 +91,28 @@ fn put_given_merge<K: Sink>(value: &[u8], out: &mut K) -> Result<(), Failed>
         return Ok(());
     }
     put_piece(b" class=\"merged\"", out)
+}
+
+/// Puts what ends at a break of this sort besides a line. It takes no memory.
+pub(crate) fn put_break<K: Sink>(sort: Option<&[u8]>, out: &mut K) -> Result<(), Failed>
+    ensures { Puts K.told K.faults K.settled K.lenders out.old out.new (pieces_text (break_pieces (option_map (λ sort. sort.now) sort.entry))) result }
+{
+    match sort {
+        Some(sort) => put_given_break(sort, out),
+        None => Ok(()),
+    }
+}
+
+fn put_given_break<K: Sink>(sort: &[u8], out: &mut K) -> Result<(), Failed>
+    ensures { Puts K.told K.faults K.settled K.lenders out.old out.new (pieces_text (break_pieces (Some sort.now))) result }
+{
+    if sort == b"page".as_slice() {
+        return put_piece(b"<span class=\"page-end\"></span>", out);
+    }
+    if sort == b"column".as_slice() {
+        return put_piece(b"<span class=\"column-end\"></span>", out);
+    }
+    Ok(())
 }
 
 /// Puts the symbol with this number, if it has one, and its end. It takes no memory.

@@ -2,7 +2,7 @@
 
 /// The security policy of the page: its own style and script alone, and nothing is ever fetched.
 pub const POLICY: &str =
-    "default-src 'none'; script-src 'sha256-A7R7zhXzblTPC/Bq9B6pjj526qqVuxIHXW10LC3mfnA='; style-src 'sha256-rLX9aBaosIVU0hg4eIX2VT9pnCQBW0RX6IxPUHk8I5g='; base-uri 'none'; form-action 'none'; require-trusted-types-for 'script'; trusted-types 'none'";
+    "default-src 'none'; script-src 'sha256-A7R7zhXzblTPC/Bq9B6pjj526qqVuxIHXW10LC3mfnA='; style-src 'sha256-hUld2VhN+GMVMylrsZoj2tFJvETEhNq7mN8YNUTNkM4='; base-uri 'none'; form-action 'none'; require-trusted-types-for 'script'; trusted-types 'none'";
 
 /// The style sheet of the page.
 pub const STYLE: &str = "/* colours, and what all elements share */
@@ -90,6 +90,9 @@ td > p:last-child { margin: 0; }
 .picture { color: var(--soft); }
 .box { display: block; }
 .box, main details { white-space: normal; }
+.page-end, .column-end { display: block; border-top: 1px dashed var(--soft); font: .7rem/1.4 system-ui, \"Liberation Sans\", sans-serif; color: var(--soft); }
+.page-end::before { content: \"page break\"; }
+.column-end::before { content: \"column break\"; }
 /* text that no reader of the document sees says so */
 .hidden { border-bottom: 2px dotted var(--soft); background: repeating-linear-gradient(135deg, transparent 0 5px, color-mix(in srgb, var(--soft) 18%, transparent) 5px 6px); }
 .hidden::before { content: \"hidden: \"; font: .7rem system-ui, \"Liberation Sans\", sans-serif; color: var(--soft); }

@@ -32,6 +32,9 @@ returns-in-Break c = rw c.in-Break.is refl
 pub returns-in-Hyphen : goal.returns-in-Hyphen
 returns-in-Hyphen c = rw c.in-Hyphen.is refl
 
+pub returns-in-SoftHyphen : goal.returns-in-SoftHyphen
+returns-in-SoftHyphen c = rw c.in-SoftHyphen.is refl
+
 pub returns-in-Picture : goal.returns-in-Picture
 returns-in-Picture c = rw c.in-Picture.is refl
 
