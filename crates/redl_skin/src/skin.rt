@@ -2,7 +2,7 @@
 
 /// The security policy of the page: its own style and script alone, and nothing is ever fetched.
 pub const POLICY: &str =
-    "default-src 'none'; script-src 'sha256-A7R7zhXzblTPC/Bq9B6pjj526qqVuxIHXW10LC3mfnA='; style-src 'sha256-hUld2VhN+GMVMylrsZoj2tFJvETEhNq7mN8YNUTNkM4='; base-uri 'none'; form-action 'none'; require-trusted-types-for 'script'; trusted-types 'none'";
+    "default-src 'none'; script-src 'sha256-7uAEv7Mj+T6um5pBRtz2xo1/b0atXNTdUVEyoCKDVp0='; style-src 'sha256-hUld2VhN+GMVMylrsZoj2tFJvETEhNq7mN8YNUTNkM4='; base-uri 'none'; form-action 'none'; require-trusted-types-for 'script'; trusted-types 'none'";
 
 /// The style sheet of the page.
 pub const STYLE: &str = "/* colours, and what all elements share */
@@ -672,18 +672,27 @@ function groupRows(body) {
   }
 }
 
-// The stories after the first have the names of their parts as headings; what they are is said in words.
+// The document comes first. The other stories are behind it, each with what it is as its heading.
 function nameStories() {
+  const stories = Array.from(main.querySelectorAll(\":scope > [data-story]\"));
   const counts = {};
-  for (const story of main.querySelectorAll(\":scope > [data-story]\")) {
-    const title = story.querySelector(\":scope > h2\");
-    const words = STORIES[story.dataset.story];
-    counts[words] = (counts[words] || 0) + 1;
-    if (!title || !words) continue;
-    title.title = title.textContent;
-    const isOne = main.querySelectorAll(':scope > [data-story=\"' + story.dataset.story + '\"]').length === 1;
-    title.textContent = words + (isOne ? \"\" : \" \" + counts[words]);
+  for (const { dataset } of stories) counts[dataset.story] = (counts[dataset.story] || 0) + 1;
+  const named = {};
+  for (const story of stories) {
+    const sort = story.dataset.story;
+    named[sort] = (named[sort] || 0) + 1;
+    if (STORIES[sort]) main.append(story);
+    headStory(story, STORIES[sort], counts[sort] > 1 ? \" \" + named[sort] : \"\");
   }
+}
+
+// Its heading was the name of its part, which stays at hand; the first story has none, and the document needs none.
+function headStory(story, words, count) {
+  const title = story.querySelector(\":scope > h2\");
+  if (words) {
+    if (!title) story.prepend(make(\"h2\", { textContent: words + count }));
+    else Object.assign(title, { title: title.textContent, textContent: words + count });
+  } else if (title && story === main.querySelector(':scope > [data-story=\"document\"]')) title.remove();
 }
 
 // A paragraph with the style of a heading is one.

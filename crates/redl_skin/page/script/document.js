@@ -53,18 +53,27 @@ function groupRows(body) {
   }
 }
 
-// The stories after the first have the names of their parts as headings; what they are is said in words.
+// The document comes first. The other stories are behind it, each with what it is as its heading.
 function nameStories() {
+  const stories = Array.from(main.querySelectorAll(":scope > [data-story]"));
   const counts = {};
-  for (const story of main.querySelectorAll(":scope > [data-story]")) {
-    const title = story.querySelector(":scope > h2");
-    const words = STORIES[story.dataset.story];
-    counts[words] = (counts[words] || 0) + 1;
-    if (!title || !words) continue;
-    title.title = title.textContent;
-    const isOne = main.querySelectorAll(':scope > [data-story="' + story.dataset.story + '"]').length === 1;
-    title.textContent = words + (isOne ? "" : " " + counts[words]);
+  for (const { dataset } of stories) counts[dataset.story] = (counts[dataset.story] || 0) + 1;
+  const named = {};
+  for (const story of stories) {
+    const sort = story.dataset.story;
+    named[sort] = (named[sort] || 0) + 1;
+    if (STORIES[sort]) main.append(story);
+    headStory(story, STORIES[sort], counts[sort] > 1 ? " " + named[sort] : "");
   }
+}
+
+// Its heading was the name of its part, which stays at hand; the first story has none, and the document needs none.
+function headStory(story, words, count) {
+  const title = story.querySelector(":scope > h2");
+  if (words) {
+    if (!title) story.prepend(make("h2", { textContent: words + count }));
+    else Object.assign(title, { title: title.textContent, textContent: words + count });
+  } else if (title && story === main.querySelector(':scope > [data-story="document"]')) title.remove();
 }
 
 // A paragraph with the style of a heading is one.
