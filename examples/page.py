@@ -150,6 +150,8 @@ class Page:
             return "<details><summary>kept in another form</summary>", "</details>"
         if element.space == "other" or element.is_w("altChunk"):
             return "<!--other-->", "<!--/other-->"
+        if element.space == "M":
+            return structure(element)
         if element.space != "W":
             return "", ""
         if element.local == "p":
@@ -178,7 +180,7 @@ class Page:
             if not isinstance(node, str):
                 start, end = self.around(node)
                 out.append(start + self.nodes(node.kids, node) + end)
-            elif parent.is_w("t", "delText") and reading.is_open(parent):
+            elif (parent.is_w("t", "delText") or parent.space == "M" and parent.local == "t") and reading.is_open(parent):
                 out.append(escaped(shown(node)))
         return "".join(out)
 
@@ -234,6 +236,41 @@ def symbol(digits):
     number = int(digits, 16) if re.fullmatch("[0-9A-Fa-f]{4}", digits) else 0
     agreed = 0x20 <= number < 0x7F or 0xA0 <= number < 0xD800 or 0xF900 <= number < 0xFFFE
     return '<span class="symbol">%s</span>' % (escaped(chr(number)) if agreed else "&#9633;")
+
+
+def structure(element):
+    """What stands before and behind what a structure of an equation holds: signs that are given, or the usual ones."""
+    start, end = STRUCTURES.get(element.local, ("", ""))
+    signs = [sign_of(element, *it) for it in SIGNED.get(element.local, ())]
+    return start + "".join(signs[:1]), "".join(signs[1:]) + end
+
+
+def sign_of(element, holder, name, usual):
+    """The first sign of this name that the properties of a structure give, or the usual one."""
+    named = lambda nodes, name: [it for it in nodes if isinstance(it, reading.Element) and it.space == "M" and it.local == name]
+    values = [it.written_value("val") for props in named(element.kids, holder) for it in named(props.kids, name)]
+    return next((escaped(shown(value)) for value in values if value is not None), usual)
+
+
+# The structures of equations: what stands around each, and of some the properties that give their signs, and the usual signs.
+STRUCTURES = {
+    "oMath": ('<span class="equation">', "</span>"),
+    "e": ("(", ")"),
+    "num": ("(", ")"),
+    "den": ("/(", ")"),
+    "sub": ("_(", ")"),
+    "lim": ("_(", ")"),
+    "sup": ("^(", ")"),
+    "deg": ("[", "]"),
+    "mr": ("[", "]"),
+    "rad": ("&#8730;", ""),
+    "acc": ("&#9676;", ""),
+}
+SIGNED = {
+    "nary": [("naryPr", "chr", "&#8747;")],
+    "acc": [("accPr", "chr", "&#770;")],
+    "d": [("dPr", "begChr", ""), ("dPr", "endChr", "")],
+}
 
 
 def edge(inside):

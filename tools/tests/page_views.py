@@ -1,6 +1,6 @@
 """The views without marks: their text is that of the document that is written after the same decisions.
 
-What the texts leave out is left out here too: signs of notes, the word of a picture, hyphens that don't break. A text that is
+What the texts leave out is left out here too: signs of notes, the word of a picture, equations, hyphens that don't break. A text that is
 marked as deleted in no deletion is in the page and not in `text`, so the packages have none.
 """
 import itertools
@@ -26,7 +26,7 @@ const walk = (node) => {
     if (!isBetween && getComputedStyle(node.parentElement).visibility === "visible") out.push(node.data);
     return;
   }
-  if (node.nodeType !== Node.ELEMENT_NODE || node.matches(".mark, .row, .cell, .props, a, sup, .picture, summary")) return;
+  if (node.nodeType !== Node.ELEMENT_NODE || node.matches(".mark, .row, .cell, .props, a, sup, .picture, .equation, summary")) return;
   const { display } = getComputedStyle(node);
   if (display === "none") return;
   if (node.localName === "br") out.push("\\n");

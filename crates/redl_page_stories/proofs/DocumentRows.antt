@@ -2,10 +2,11 @@
 use Prim.Native.String.{String}
 use Rattle.std.proofs.Common.{◌≡◌, ℕ, List, [], ◌∷◌, None, codes, refl}
 use Rattle.redl_tree.specs.Model.Nodes.{Nodes, no_nodes, Empty, ◌⊕◌}
+use Rattle.redl_tree.specs.declared.kinds.Space.TheVariants.{M}
 use Rattle.redl_tree.specs.declared.kinds.Trace.TheVariants.{Ins, Del, From}
 use Rattle.redl_tree.specs.declared.kinds.Prop.TheVariants as props
 use Rattle.redl_tree.specs.declared.kinds.Kind.TheVariants.{Mark, Row, Cell, Change, Marker}
-use Rattle.redl_tree.proofs.Model.Build.{opened, opened_with, closed, member, content, words, run, deleted_run}
+use Rattle.redl_tree.proofs.Model.Build.{tag_in, one, opened, opened_with, closed, member, content, words, run, deleted_run}
 use Rattle.redl_kinds.specs.declared.rev_kind.RevKind.TheVariants as revisions
 use Rattle.redl_index.specs.declared.revision.Revision.{Revision}
 use Rattle.redl_markup.specs.Attributes.{attributes_of}
@@ -109,3 +110,32 @@ shown_hidden : written hidden_clause
     ≡ codes "<p><span class=\"hidden\"><b><span class=\"props\" data-revision=\"2\" data-author=\"Bob\">run-props</span>Waived</b></span></p>\n"
 unfolding hidden_clause digits attributes_of attribute_in attribute_at name_at word_at char_at name_end name_step may_start may_follow is_name_start is_name_character is_space equated_at quoted_at field_at quote_at is_value
 shown_hidden = refl
+
+-- an equation: a fraction under a root, a sum, and what stands between two bars
+abbrev math : String → String → Nodes → Nodes
+math name tail kids = one (tag_in M "m" name tail Empty) kids
+
+abbrev m : String → Nodes → Nodes
+m name kids = math name "" kids
+
+abbrev letters : String → Nodes
+letters text = m "r" (m "t" (words text))
+
+equation : Nodes
+equation =
+    m "oMath" (m "rad" (m "deg" (letters "3") ⊕ m "e" (m "f" (m "num" (letters "a &lt; b") ⊕ m "den" (letters "2"))))
+    ⊕ m "nary" (m "naryPr" (math "chr" " m:val=\"S\"" no_nodes) ⊕ m "sub" (letters "i") ⊕ m "sup" (letters "n") ⊕ m "e" (letters "i"))
+    ⊕ m "d" (m "dPr" (math "begChr" " m:val=\"|\"" no_nodes ⊕ math "endChr" " m:val=\"|\"" no_nodes) ⊕ m "e" (letters "x")))
+
+linear : written equation
+    ≡ codes "<span class=\"equation\">&#8730;[3]((a &lt; b)/(2))S_(i)^(n)(i)|(x)|</span>"
+unfolding equation attributes_of attribute_in attribute_at name_at word_at char_at name_end name_step may_start may_follow is_name_start is_name_character is_space equated_at quoted_at field_at quote_at is_value reference_at named_at encode
+linear = refl
+
+-- the usual signs: of an integral, of a mark over a part, and no bars
+usual : Nodes
+usual = m "nary" (m "e" (letters "f")) ⊕ m "acc" (m "e" (letters "v")) ⊕ m "d" (m "e" (letters "x"))
+
+usual_signs : written usual ≡ codes "&#8747;(f)&#9676;&#770;(v)(x)"
+unfolding usual attributes_of attribute_in attribute_at name_at word_at char_at name_end name_step may_start may_follow is_name_start is_name_character is_space equated_at quoted_at field_at quote_at is_value
+usual_signs = refl

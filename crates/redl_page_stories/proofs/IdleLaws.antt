@@ -4,7 +4,7 @@ use Rattle.std.specs.Prelude.{is_some}
 use Rattle.std.proofs.Math.Bool.{or-false}
 use Rattle.redl_tree.specs.Model.Nodes.{Tag, Nodes, no_nodes, bytes, element}
 use Rattle.redl_tree.specs.Model.IdleTexts.{idle_nodes}
-use Rattle.redl_tree.specs.Roles.Names.{is, of_w}
+use Rattle.redl_tree.specs.Roles.Names.{is, is_m, is_math, of_w}
 use Rattle.redl_tree.specs.Roles.Idle.{is_idle_in}
 use Rattle.redl_tree.proofs.Idle.Tags.{Idle, idle_parts, has-not}
 use Rattle.redl_tree.proofs.Idle.Items.{nodes_are_idle}
@@ -20,9 +20,9 @@ use Rattle.redl_page_stories.specs.declared.shape.Shape.{Shape}
 use Rattle.redl_page_stories.specs.declared.shape.Shape.TheVariants as shape
 use Rattle.redl_page_stories.specs.Document.{bytes_pieces, element_pieces, end_as, inside, marks_in, nodes_pieces, start_as}
 use Rattle.redl_page_stories.specs.Inside.Idle.{behind_idle, idle_within, idle_named, idle_place, idle_shape, idle_start, idle_text, page_rule}
-use Rattle.redl_html.specs.Pieces.{own, pieces_text}
-use Rattle.redl_page_stories.specs.Shapes.{behind_opening, closing, has_property, hidden_shape, holds_blocks, holds_list, inline_named, inline_shape, is_foreign, is_note, is_other, is_other_form, is_paragraph, is_reference, opening, run_shape, set_shape, shape_named, shape_of}
-use Rattle.redl_page_stories.proofs.PastLaws.{no_other, other_none}
+use Rattle.redl_html.specs.Pieces.{HtmlPiece, own, pieces_text}
+use Rattle.redl_page_stories.specs.Shapes.{before_closing, behind_opening, closing, has_property, hidden_shape, holds_blocks, holds_list, inline_named, inline_shape, is_foreign, is_note, is_other, is_other_form, is_paragraph, is_reference, math_shape, opening, run_shape, set_shape, shape_named, shape_of}
+use Rattle.redl_page_stories.proofs.PastLaws.{math_none, no_math, no_other, other_none}
 use Rattle.redl_html.proofs.PieceLaws.{pieces_text-append}
 use Rattle.redl_page_stories.proofs.NodeLaws.{element_text-by, shape_end-text}
 
@@ -66,7 +66,8 @@ named_same in_run tag kids i =
     let run = run_shape kids in
     let para = if holds_blocks kids then shape.Division else shape.Paragraph in
     let inline = inline_named tag in
-    let after_list = λ (l : Bool). if l then shape.Blocks else if is_foreign tag then shape.Foreign else inline in
+    let after_foreign = λ (f : Bool). if f then shape.Foreign else if is_m tag.space then math_shape tag else inline in
+    let after_list = λ (l : Bool). if l then shape.Blocks else after_foreign (is_foreign tag) in
     let after_note = λ (n : Bool). if n then shape.Note else after_list (holds_list tag) in
     let after_form = λ (o : Bool). if o then shape.OtherForm else after_note (is_note tag) in
     let after_box = λ (x : Bool). if x then shape.TextBox else after_form (is_other_form tag) in
@@ -77,7 +78,8 @@ named_same in_run tag kids i =
     let others : after_table (is "tbl" tag) ≡ inline_shape (is_reference (of_w tag.local)) (of_w tag.local) =
     ap after_table (has-not "tbl" in_run tag i refl) ∙ ap after_row (has-not "tr" in_run tag i refl) ∙ ap after_cell (has-not "tc" in_run tag i refl)
     ∙ ap after_box (has-not "txbxContent" in_run tag i refl) ∙ ap after_form (other_none in_run tag i) ∙ ap after_note (note_none in_run tag i)
-    ∙ ap after_list (list_none in_run tag i) ∙ ap (λ (f : Bool). if f then shape.Foreign else inline) (foreign_none in_run tag i)
+    ∙ ap after_list (list_none in_run tag i) ∙ ap after_foreign (foreign_none in_run tag i)
+    ∙ ap (λ (m : Bool). if m then math_shape tag else inline) (no_math tag.space i.space)
     ∙ ap (λ n. inline_shape n tag) (reference_same in_run tag i) ∙ inline_same (is_reference (of_w tag.local)) in_run tag i in
     ap (λ p. if p then para else after_run (is "r" tag)) (has-not "p" in_run tag i refl)
     ∙ ap after_run (name_same in_run tag i (codes "r"))
@@ -86,11 +88,14 @@ named_same in_run tag kids i =
 shape_same : (loud : Bool) (in_run : Bool) (tag : Tag) (kids : Nodes) → Idle in_run tag → shape_of loud tag kids ≡ idle_shape loud tag.local kids
 shape_same loud in_run tag kids i = ap (λ s. if loud then s else shape.Nothing) (named_same in_run tag kids i)
 
--- the shapes of which something of the kids comes behind the opening
+-- the shapes of which something of the kids comes behind the opening or before the closing
 abbrev tells_kids : Shape → Bool
 tells_kids shape.Paragraph = true
 tells_kids shape.Division = true
 tells_kids shape.Cell = true
+tells_kids shape.Operator = true
+tells_kids shape.Accent = true
+tells_kids shape.Delimiters = true
 tells_kids _ = false
 
 -- that is none of them
@@ -138,7 +143,14 @@ behind_same : (s : Shape) (tag : Tag) (kids : Nodes) → tells_kids s ≡ false 
 behind_same shape.Paragraph tag kids h = absurd cc
 behind_same shape.Division tag kids h = absurd cc
 behind_same shape.Cell tag kids h = absurd cc
+behind_same shape.Operator tag kids h = absurd cc
+behind_same shape.Accent tag kids h = absurd cc
+behind_same shape.Delimiters tag kids h = absurd cc
 behind_same _ tag kids h = refl
+
+ending_none : (s : Shape) (kids : Nodes) → tells_kids s ≡ false → before_closing s kids ≡ []
+ending_none shape.Delimiters kids h = absurd cc
+ending_none _ kids h = refl
 
 -- what comes before its kids, and after them
 start_same : (revisions : List Revision) (s : Shape) (in_run : Bool) (tag : Tag) (kids : Nodes) → Idle in_run tag → tells_kids s ≡ false →
@@ -150,13 +162,15 @@ end_same : (revisions : List Revision) (s : Shape) (in_run : Bool) (tag : Tag) (
     pieces_text (end_as revisions s kids tag.kind) ≡ codes (closing s)
 end_same revisions s in_run tag kids i h =
     ap (λ k. pieces_text (end_as revisions s kids k)) i.kind ∙ shape_end-text revisions s kids
-    ∙ ap (λ p. pieces_text (if p then marks_in revisions Kids kids else []) ++ codes (closing s)) (no_paragraph s h)
+    ∙ ap (λ p. pieces_text (if p then marks_in revisions Kids kids else []) ++ (pieces_text (before_closing s kids) ++ codes (closing s))) (no_paragraph s h)
+    ∙ ap (λ (l : List HtmlPiece). pieces_text l ++ codes (closing s)) (ending_none s kids h)
 
 place_same : (place : PageSummary) (in_run : Bool) (tag : Tag) → Idle in_run tag → inside tag place ≡ idle_place place tag.local
 place_same place in_run tag i =
-    ap (λ (q : Bool). record { loud = place.loud && not q; shows = place.loud && (is "t" tag || is "delText" tag) }) (quiet_same in_run tag i)
+    ap (λ (q : Bool). record { loud = place.loud && not q; shows = place.loud && (is "t" tag || is "delText" tag || is_math "t" tag) }) (quiet_same in_run tag i)
     ∙ ap (λ (t : Bool). record { loud = place.loud && not (is "rPr" (of_w tag.local)); shows = place.loud && t })
-    (ap (λ d. is "t" tag || d) (has-not "delText" in_run tag i refl) ∙ or-false (is "t" tag) ∙ name_same in_run tag i (codes "t"))
+    (ap (λ m. is "t" tag || is "delText" tag || m) (math_none "t" in_run tag i) ∙ or-false (is "t" tag || is "delText" tag)
+    ∙ ap (λ d. is "t" tag || d) (has-not "delText" in_run tag i refl) ∙ or-false (is "t" tag) ∙ name_same in_run tag i (codes "t"))
 
 -- ---- what is shown
 

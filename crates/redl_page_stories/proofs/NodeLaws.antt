@@ -19,7 +19,7 @@ use Rattle.redl_page_stories.specs.declared.values.Property.{Property}
 use Rattle.redl_html.specs.Escaping.{escaped}
 use Rattle.redl_html.specs.Pieces.{HtmlPiece, own, pieces_text}
 use Rattle.redl_html.proofs.PieceLaws.{pieces_text-append}
-use Rattle.redl_page_stories.specs.Shapes.{closing, has_property, holds_blocks, is_paragraph, shape_of, switched_on, value_in, value_of}
+use Rattle.redl_page_stories.specs.Shapes.{before_closing, closing, has_property, holds_blocks, is_paragraph, shape_of, switched_on, value_in, value_of}
 use Rattle.redl_page_stories.specs.declared.shape.Shape.{Shape}
 use Rattle.redl_page_stories.specs.Signs.{author_at, sign, sign_text, edge}
 use Rattle.redl_page_stories.specs.Document.{in_story, section_name, section_start, section, shape_end, start_as, end_as, element_pieces, marks_in, nodes_pieces, section_in, sections, section_at, name_at, is_first_after}
@@ -134,10 +134,13 @@ pub value_of-here : (property : Property) (nodes : Nodes) (x : Item) (rest : Nod
 value_of-here property nodes x rest value e h = ap (value_of property) e ∙ value_of-front property x rest ∙ ap (λ o. option_or o (value_of property rest)) h
 
 pub shape_end-text : (revisions : List Revision) (shape : Shape) (kids : Nodes) → pieces_text (shape_end revisions shape kids)
-    ≡ pieces_text (if is_paragraph shape then marks_in revisions Kids kids else []) ++ codes (closing shape)
+    ≡ pieces_text (if is_paragraph shape then marks_in revisions Kids kids else []) ++ (pieces_text (before_closing shape kids) ++ codes (closing shape))
 shape_end-text revisions shape kids =
-    pieces_text-append (if is_paragraph shape then marks_in revisions Kids kids else []) _
-    ∙ ap (λ l. pieces_text (if is_paragraph shape then marks_in revisions Kids kids else []) ++ l) (append-nil (codes (closing shape)))
+    let marks : List HtmlPiece = if is_paragraph shape then marks_in revisions Kids kids else [] in
+    let end : List HtmlPiece = own (closing shape) ∷ [] in
+    pieces_text-append marks (before_closing shape kids ++ end)
+    ∙ ap (λ l. pieces_text marks ++ l)
+    (pieces_text-append (before_closing shape kids) end ∙ ap (λ l. pieces_text (before_closing shape kids) ++ l) (append-nil (codes (closing shape))))
 
 -- ---- parts
 

@@ -1,10 +1,11 @@
 -- Nodes one after the other, and what idle nodes in front don't have.
+use Prim.Native.String.{String}
 use Rattle.std.proofs.Common.{◌≡◌, ◌∙◌, refl, sym, ap, ℕ, List, [], ◌++◌, append_assoc, Bool, true, false, ◌&&◌, ◌||◌, Option, Some, None, codes, bytes_eq, if◌then◌else◌}
 use Rattle.std.proofs.Math.Bool.{or_assoc}
 use Rattle.std.proofs.lemmas.Bool.{or_from}
 use Rattle.std.specs.Option.{option_or}
 use Rattle.redl_tree.specs.Model.Nodes.{Tag, Nodes, no_nodes, bytes, element, ◌⊕◌}
-use Rattle.redl_tree.specs.Roles.Names.{is, is_w}
+use Rattle.redl_tree.specs.Roles.Names.{is, is_m, is_math, is_w}
 use Rattle.redl_tree.specs.Roles.Idle.{is_idle_in}
 use Rattle.redl_tree.specs.Roles.Kinds.{is_mark}
 use Rattle.redl_tree.specs.declared.kinds.Kind.{Kind}
@@ -16,7 +17,7 @@ use Rattle.redl_page_stories.specs.declared.marks.Depth.{Depth}
 use Rattle.redl_page_stories.specs.declared.marks.Depth.TheVariants.{Kids, Properties, RunProperties}
 use Rattle.redl_page_stories.specs.declared.place.PageSummary.{PageSummary}
 use Rattle.redl_page_stories.specs.declared.values.Property.{Property}
-use Rattle.redl_page_stories.specs.declared.values.Property.TheVariants.{Style, Direction, Span, Merge}
+use Rattle.redl_page_stories.specs.declared.values.Property.TheVariants.{Style, Direction, Span, Merge, OperatorSign, AccentSign, FirstDelimiter, LastDelimiter}
 use Rattle.redl_page_stories.specs.Document.{bytes_pieces, element_pieces, inside, marks_in, nodes_pieces}
 use Rattle.redl_page_stories.specs.Shapes.{given_by, has_property, holds, holds_blocks, is_block, is_other, is_other_form, switched_on, switches, value_in, value_of}
 use Rattle.redl_page_stories.specs.Signs.{member}
@@ -61,11 +62,24 @@ has_property_past name (element tag kids rest) y h =
     ap (λ b. (b && switched_on name kids) || has_property name (rest ⊕ y)) (has-not "rPr" false tag p.own refl)
     ∙ has_property_past name rest y p.later
 
+pub no_math : (s : Space) → is_w s ≡ true → is_m s ≡ false
+no_math W h = refl
+no_math M h = absurd cc
+no_math Pkg h = refl
+no_math Other h = refl
+
+pub math_none : (name : String) (in_run : Bool) (tag : Tag) → Idle in_run tag → is_math name tag ≡ false
+math_none name in_run tag i = ap (λ m. m && bytes_eq tag.local (codes name)) (no_math tag.space i.space)
+
 holds_none : (property : Property) (in_run : Bool) (tag : Tag) → Idle in_run tag → holds property tag ≡ false
 holds_none Style in_run tag i = has-not "pPr" in_run tag i refl
 holds_none Direction in_run tag i = has-not "pPr" in_run tag i refl
 holds_none Span in_run tag i = has-not "tcPr" in_run tag i refl
 holds_none Merge in_run tag i = has-not "tcPr" in_run tag i refl
+holds_none OperatorSign in_run tag i = math_none "naryPr" in_run tag i
+holds_none AccentSign in_run tag i = math_none "accPr" in_run tag i
+holds_none FirstDelimiter in_run tag i = math_none "dPr" in_run tag i
+holds_none LastDelimiter in_run tag i = math_none "dPr" in_run tag i
 
 pub value_of_past : (property : Property) (x y : Nodes) → is_idle_in false x ≡ true → value_of property (x ⊕ y) ≡ value_of property y
 value_of_past property no_nodes y h = refl

@@ -1,10 +1,11 @@
--- What is written behind the opening of a paragraph and of a cell.
-use Rattle.std.proofs.Common.{◌≡◌, ℕ, List, [], ◌∷◌, ◌++◌, Option, None, Some, option_map, Bor, ap, sym, ◌∙◌, codes}
+-- What is written behind the opening of a paragraph, of a cell and of a structure of an equation.
+use Prim.Native.String.{String}
+use Rattle.std.proofs.Common.{◌≡◌, ℕ, List, [], ◌∷◌, ◌++◌, Option, None, Some, option_map, Bor, refl, ap, sym, ◌∙◌, codes}
 use Rattle.redl_reading.specs.Steps.{Gives}
 use Rattle.redl_tree.specs.Model.Nodes.{Nodes}
-use Rattle.redl_html.specs.Pieces.{own, pieces_text}
+use Rattle.redl_html.specs.Pieces.{own, piece_text, pieces_text}
 use Rattle.redl_html.proofs.PieceLaws.{pieces_text-append}
-use Rattle.redl_page_stories.specs.Shapes.{cell_pieces, direction_pieces, merge_pieces, paragraph_pieces, span_pieces, style_pieces, value_of}
+use Rattle.redl_page_stories.specs.Shapes.{cell_pieces, direction_pieces, merge_pieces, paragraph_pieces, sign_piece, sign_text, span_pieces, style_pieces, value_of}
 use Rattle.redl_page_stories.specs.declared.values.Property.TheVariants.{Style, Direction, Span, Merge}
 
 -- a value that was found, as plain data
@@ -21,3 +22,8 @@ pub cell-text : (kids : Nodes) → pieces_text (cell_pieces kids)
 cell-text kids =
     pieces_text-append (span_pieces (value_of Span kids)) _
     ∙ ap (λ l. pieces_text (span_pieces (value_of Span kids)) ++ l) (pieces_text-append (merge_pieces (value_of Merge kids)) (own ">" ∷ []))
+
+-- a sign of an equation as it is written
+pub sign-written : (usual : String) (sign : Option (List ℕ)) → piece_text (sign_piece usual sign) ≡ sign_text (codes usual) sign
+sign-written usual None = refl
+sign-written usual (Some sign) = refl

@@ -1,7 +1,7 @@
 -- The document of the page: its stories in the order of the parts, with an element for each member of a revision.
 use Rattle.std.specs.Prelude.{ℕ, List, [], ◌∷◌, ◌++◌, Bool, true, false, ◌&&◌, ◌||◌, not, Option, Some, None, unwrap_or, if◌then◌else◌}
 use Rattle.redl_tree.specs.Model.Nodes.{Tag, Nodes, no_nodes, bytes, element}
-use Rattle.redl_tree.specs.Roles.Names.{is}
+use Rattle.redl_tree.specs.Roles.Names.{is, is_math}
 use Rattle.redl_tree.specs.Roles.Places.{is_quiet}
 use Rattle.redl_tree.specs.Roles.Kinds.{is_mark}
 use Rattle.redl_tree.specs.declared.kinds.Kind.{Kind}
@@ -16,7 +16,7 @@ use Rattle.redl_page_stories.specs.declared.marks.Depth.TheVariants.{Kids, Prope
 use Rattle.redl_page_stories.specs.declared.shape.Shape.{Shape}
 use Rattle.redl_html.specs.Pieces.{HtmlPiece, own, outside}
 use Rattle.redl_page_stories.specs.Signs.{member, edge, content_end}
-use Rattle.redl_page_stories.specs.Shapes.{shape_of, opening, behind_opening, closing, is_paragraph}
+use Rattle.redl_page_stories.specs.Shapes.{shape_of, opening, behind_opening, before_closing, closing, is_paragraph}
 
 -- ---- the marks of a paragraph
 
@@ -39,7 +39,8 @@ shape_start shape tag kids = own (opening shape) ∷ behind_opening shape tag ki
 
 -- a paragraph shows the members of its mark at its end
 abbrev pub shape_end : List Revision → Shape → Nodes → List HtmlPiece
-shape_end revisions shape kids = (if is_paragraph shape then marks_in revisions Kids kids else []) ++ own (closing shape) ∷ []
+shape_end revisions shape kids =
+    (if is_paragraph shape then marks_in revisions Kids kids else []) ++ (before_closing shape kids ++ own (closing shape) ∷ [])
 
 -- what comes before the kids of an element with this shape
 abbrev pub start_as : List Revision → Shape → Tag → Nodes → Kind → List HtmlPiece
@@ -63,7 +64,7 @@ end_as revisions shape kids _ = []
 abbrev pub inside : Tag → PageSummary → PageSummary
 inside tag place = record {
   loud = place.loud && not (is_quiet tag);
-  shows = place.loud && (is "t" tag || is "delText" tag);
+  shows = place.loud && (is "t" tag || is "delText" tag || is_math "t" tag);
 }
 
 abbrev pub bytes_pieces : (List ℕ → List ℕ) → PageSummary → List ℕ → List HtmlPiece

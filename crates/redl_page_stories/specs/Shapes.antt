@@ -5,17 +5,18 @@ use Prim.Native.String.{String}
 use Rattle.std.specs.Prelude.{ℕ, Bool, true, false, ◌&&◌, ◌||◌, not, List, [], ◌∷◌, ◌++◌, Option, Some, None, unwrap_or, bytes_eq, codes, encode_utf8, is_some, nat_le, nat_lt, if◌then◌else◌}
 use Rattle.std.specs.Option.{option_or}
 use Rattle.redl_tree.specs.Model.Nodes.{Tag, Nodes, no_nodes, bytes, element}
-use Rattle.redl_tree.specs.Roles.Names.{is, named}
+use Rattle.redl_tree.specs.Roles.Names.{is, is_m, is_math, is_w, named}
 use Rattle.redl_tree.specs.declared.kinds.Space.{Space}
 use Rattle.redl_tree.specs.declared.kinds.Space.TheVariants.{Other}
 use Rattle.redl_shown.specs.Shown.{shown}
 use Rattle.redl_stamp.specs.Attribute.{attribute_value, written_value}
+use Rattle.redl_html.specs.Escaping.{escaped}
 use Rattle.redl_html.specs.Pieces.{HtmlPiece, own, outside}
 use Rattle.redl_grammar.specs.References.{reference_at}
 use Rattle.redl_page_stories.specs.declared.values.Property.{Property}
-use Rattle.redl_page_stories.specs.declared.values.Property.TheVariants.{Style, Direction, Span, Merge}
+use Rattle.redl_page_stories.specs.declared.values.Property.TheVariants.{Style, Direction, Span, Merge, OperatorSign, AccentSign, FirstDelimiter, LastDelimiter}
 use Rattle.redl_page_stories.specs.declared.shape.Shape.{Shape}
-use Rattle.redl_page_stories.specs.declared.shape.Shape.TheVariants.{Nothing, Paragraph, Division, Table, Row, Cell, TextBox, Bold, Italic, BoldItalic, Hidden, HiddenBold, HiddenItalic, HiddenBoldItalic, Tab, Break, Hyphen, SoftHyphen, Symbol, Picture, Reference, Note, Blocks, Foreign, OtherForm}
+use Rattle.redl_page_stories.specs.declared.shape.Shape.TheVariants.{Nothing, Paragraph, Division, Table, Row, Cell, TextBox, Bold, Italic, BoldItalic, Hidden, HiddenBold, HiddenItalic, HiddenBoldItalic, Tab, Break, Hyphen, SoftHyphen, Symbol, Picture, Reference, Note, Blocks, Foreign, OtherForm, Equation, Argument, Divisor, Below, Above, Bracketed, Root, Operator, Accent, Delimiters}
 
 abbrev pub is_other : Space → Bool
 is_other Other = true
@@ -98,6 +99,24 @@ holds_list tag = is "sdt" tag || is "customXml" tag || is "footnote" tag || is "
 abbrev pub is_foreign : Tag → Bool
 is_foreign tag = is "altChunk" tag || is_other tag.space
 
+-- ---- equations
+
+-- What an element of mathematics is shown as (22.1.2): an equation as its linear text, in which each argument of a structure is in
+-- brackets, after a sign that says what it is.
+abbrev pub math_shape : Tag → Shape
+math_shape tag =
+    if is_math "oMath" tag then Equation
+    else if is_math "e" tag || is_math "num" tag then Argument
+    else if is_math "den" tag then Divisor
+    else if is_math "sub" tag || is_math "lim" tag then Below
+    else if is_math "sup" tag then Above
+    else if is_math "deg" tag || is_math "mr" tag then Bracketed
+    else if is_math "rad" tag then Root
+    else if is_math "nary" tag then Operator
+    else if is_math "acc" tag then Accent
+    else if is_math "d" tag then Delimiters
+    else Nothing
+
 -- ---- shapes
 
 -- what an element is shown as by its name, where it is no block, and is a reference to a note or none
@@ -128,6 +147,7 @@ shape_named tag kids =
     else if is_note tag then Note
     else if holds_list tag then Blocks
     else if is_foreign tag then Foreign
+    else if is_m tag.space then math_shape tag
     else inline_named tag
 
 -- the same where no ancestor holds properties, and else nothing
@@ -162,6 +182,16 @@ opening Note = "<!--list--><sup>"
 opening Blocks = "<!--list-->"
 opening Foreign = "<!--other-->"
 opening OtherForm = "<details><summary>kept in another form</summary>"
+opening Equation = "<span class=\"equation\">"
+opening Argument = "("
+opening Divisor = "/("
+opening Below = "_("
+opening Above = "^("
+opening Bracketed = "["
+opening Root = "&#8730;"
+opening Operator = ""
+opening Accent = "&#9676;"
+opening Delimiters = ""
 
 -- what comes after them
 abbrev pub closing : Shape → String
@@ -190,6 +220,16 @@ closing Note = "<!--/list-->"
 closing Blocks = "<!--/list-->"
 closing Foreign = "<!--/other-->"
 closing OtherForm = "</details>"
+closing Equation = "</span>"
+closing Argument = ")"
+closing Divisor = ")"
+closing Below = ")"
+closing Above = ")"
+closing Bracketed = "]"
+closing Root = ""
+closing Operator = ""
+closing Accent = ""
+closing Delimiters = ""
 
 -- a paragraph
 abbrev pub is_paragraph : Shape → Bool
@@ -205,17 +245,36 @@ property_name Style = codes "pStyle"
 property_name Direction = codes "bidi"
 property_name Span = codes "gridSpan"
 property_name Merge = codes "vMerge"
+property_name OperatorSign = codes "chr"
+property_name AccentSign = codes "chr"
+property_name FirstDelimiter = codes "begChr"
+property_name LastDelimiter = codes "endChr"
 
--- what a property with this tail gives: its value as it is written; a style and a span without one give nothing
+-- whether it is one of mathematics, or of W
+abbrev pub is_in : Property → Space → Bool
+is_in Style space = is_w space
+is_in Direction space = is_w space
+is_in Span space = is_w space
+is_in Merge space = is_w space
+is_in OperatorSign space = is_m space
+is_in AccentSign space = is_m space
+is_in FirstDelimiter space = is_m space
+is_in LastDelimiter space = is_m space
+
+-- what a property with this tail gives: its value as it is written; without one most give nothing
 abbrev pub given : Property → List ℕ → Option (List ℕ)
 given Style tail = written_value tail (codes "val")
 given Direction tail = Some (unwrap_or (written_value tail (codes "val")) [])
 given Span tail = written_value tail (codes "val")
 given Merge tail = Some (unwrap_or (written_value tail (codes "val")) [])
+given OperatorSign tail = written_value tail (codes "val")
+given AccentSign tail = written_value tail (codes "val")
+given FirstDelimiter tail = written_value tail (codes "val")
+given LastDelimiter tail = written_value tail (codes "val")
 
--- what an element gives as this property (17.3.1.27, 17.3.1.6, 17.4.17 and 17.4.84)
+-- what an element gives as this property (17.3.1.27, 17.3.1.6, 17.4.17, 17.4.84, 22.1.2.20, 22.1.2.10 and 22.1.2.33)
 abbrev pub given_by : Property → Tag → Option (List ℕ)
-given_by property tag = if named (property_name property) tag then given property tag.tail else None
+given_by property tag = if is_in property tag.space && bytes_eq tag.local (property_name property) then given property tag.tail else None
 
 -- the first value of a property that is given among these
 abbrev pub value_in : Property → Nodes → Option (List ℕ)
@@ -223,12 +282,16 @@ value_in property no_nodes = None
 value_in property (bytes b rest) = value_in property rest
 value_in property (element tag kids rest) = option_or (given_by property tag) (value_in property rest)
 
--- an element that holds properties of this sort: those of a paragraph, or those of a cell
+-- an element that holds properties of this sort: those of a paragraph, of a cell, or of a structure of an equation
 abbrev pub holds : Property → Tag → Bool
 holds Style tag = is "pPr" tag
 holds Direction tag = is "pPr" tag
 holds Span tag = is "tcPr" tag
 holds Merge tag = is "tcPr" tag
+holds OperatorSign tag = is_math "naryPr" tag
+holds AccentSign tag = is_math "accPr" tag
+holds FirstDelimiter tag = is_math "dPr" tag
+holds LastDelimiter tag = is_math "dPr" tag
 
 -- the value of a property of an element with these kids
 abbrev pub value_of : Property → Nodes → Option (List ℕ)
@@ -260,6 +323,18 @@ style_pieces (Some style) = own " data-style=\"" ∷ outside (shown style) ∷ o
 abbrev pub note_pieces : Option (List ℕ) → List HtmlPiece
 note_pieces None = own "</sup>" ∷ []
 note_pieces (Some id) = outside (shown id) ∷ own "</sup>" ∷ []
+
+-- ---- signs of equations
+
+-- a sign that is given, or else this one
+abbrev pub sign_piece : String → Option (List ℕ) → HtmlPiece
+sign_piece usual None = own usual
+sign_piece usual (Some sign) = outside (shown sign)
+
+-- what is written of it
+abbrev pub sign_text : List ℕ → Option (List ℕ) → List ℕ
+sign_text usual None = usual
+sign_text usual (Some sign) = escaped (shown sign)
 
 -- ---- breaks
 
@@ -314,4 +389,12 @@ behind_opening Break tag kids = break_pieces (written_value tag.tail (codes "typ
 behind_opening Symbol tag kids = symbol_pieces (written_value tag.tail (codes "char"))
 behind_opening Reference tag kids = note_pieces (written_value tag.tail (codes "id"))
 behind_opening Note tag kids = note_pieces (written_value tag.tail (codes "id"))
+behind_opening Operator tag kids = sign_piece "&#8747;" (value_of OperatorSign kids) ∷ []
+behind_opening Accent tag kids = sign_piece "&#770;" (value_of AccentSign kids) ∷ []
+behind_opening Delimiters tag kids = sign_piece "" (value_of FirstDelimiter kids) ∷ []
 behind_opening _ tag kids = []
+
+-- what comes before the closing: round brackets that are those of the arguments need no others
+abbrev pub before_closing : Shape → Nodes → List HtmlPiece
+before_closing Delimiters kids = sign_piece "" (value_of LastDelimiter kids) ∷ []
+before_closing _ kids = []

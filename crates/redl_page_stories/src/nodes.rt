@@ -5,8 +5,9 @@ ghost use Rattle.redl_io.specs.Sink.{Puts};
 ghost use Rattle.redl_tree.specs.Model.View.{nodes_of, item_of, tag_of, kids_of};
 ghost use Rattle.redl_shown.specs.Shown.{shown};
 ghost use Rattle.redl_page_stories.specs.Document.{element_pieces, end_as, inside, marks_in, nodes_pieces, shape_end, shape_start, start_as};
-ghost use Rattle.redl_html.specs.Pieces.{pieces_text};
-ghost use Rattle.redl_page_stories.specs.Shapes.{behind_opening, is_paragraph};
+ghost use Rattle.redl_html.specs.Pieces.{piece_text, pieces_text};
+ghost use Rattle.redl_page_stories.specs.Shapes.{before_closing, behind_opening, is_paragraph, sign_piece, value_of};
+ghost use Rattle.redl_page_stories.specs.declared.values.Property.TheVariants.{AccentSign, OperatorSign};
 ghost use Rattle.redl_page_stories.specs.declared.marks.Depth.TheVariants.{Kids};
 ghost use Rattle.redl_page_stories.specs.Inside.Items.{item_pieces};
 
@@ -16,8 +17,8 @@ use crate::place::PageSummary;
 use crate::shape::Shape;
 use crate::shown::put_bytes;
 use crate::sign::{content_end, put_edge, put_member};
-use crate::starts::{put_break, put_cell_start, put_paragraph_start, put_symbol};
-use crate::values::{put_note, written_value};
+use crate::starts::{put_break, put_cell_start, put_paragraph_start, put_sign, put_symbol};
+use crate::values::{Property, put_note, value_of, written_value};
 use redl_index::Index;
 use redl_io::{Failed, Sink, put_piece};
 use redl_tree::{Elem, Kind, Node};
@@ -93,7 +94,7 @@ fn put_opening<K: Sink>(shape: Shape, elem: &Elem, out: &mut K) -> Result<(), Fa
     put_behind_opening(shape, elem, out)
 }
 
-// Puts what comes behind the opening of a paragraph, a cell, a break, a symbol or a note.
+// Puts what comes behind the opening of a paragraph, a cell, a break, a symbol, a note or a structure of an equation.
 fn put_behind_opening<K: Sink>(shape: Shape, elem: &Elem, out: &mut K) -> Result<(), Failed>
     ensures { Puts K.told K.faults K.settled K.lenders out.old out.new (pieces_text (behind_opening shape (tag_of elem.now) (kids_of elem.now))) result }
 {
@@ -105,8 +106,33 @@ fn put_behind_opening<K: Sink>(shape: Shape, elem: &Elem, out: &mut K) -> Result
         Shape::Symbol => put_symbol(written_value(elem.tail(), b"char"), out),
         Shape::Reference => put_note(written_value(elem.tail(), b"id"), out),
         Shape::Note => put_note(written_value(elem.tail(), b"id"), out),
+        Shape::Operator => put_operator(elem, out),
+        Shape::Accent => put_accent(elem, out),
+        Shape::Delimiters => put_delimiter(Property::FirstDelimiter, elem, out),
         _ => Ok(()),
     }
+}
+
+fn put_operator<K: Sink>(elem: &Elem, out: &mut K) -> Result<(), Failed>
+    ensures { Puts K.told K.faults K.settled K.lenders out.old out.new (piece_text (sign_piece "&#8747;" (value_of OperatorSign (kids_of elem.now)))) result }
+{
+    put_sign(
+        value_of(Property::OperatorSign, elem.kids()),
+        b"&#8747;",
+        out,
+    )
+}
+
+fn put_accent<K: Sink>(elem: &Elem, out: &mut K) -> Result<(), Failed>
+    ensures { Puts K.told K.faults K.settled K.lenders out.old out.new (piece_text (sign_piece "&#770;" (value_of AccentSign (kids_of elem.now)))) result }
+{
+    put_sign(value_of(Property::AccentSign, elem.kids()), b"&#770;", out)
+}
+
+fn put_delimiter<K: Sink>(delimiter: Property, elem: &Elem, out: &mut K) -> Result<(), Failed>
+    ensures { Puts K.told K.faults K.settled K.lenders out.old out.new (piece_text (sign_piece "" (value_of delimiter (kids_of elem.now)))) result }
+{
+    put_sign(value_of(delimiter, elem.kids()), b"", out)
 }
 
 // Puts what comes after them.
@@ -124,7 +150,18 @@ fn put_closing<K: Sink>(index: &Index, shape: Shape, elem: &Elem, out: &mut K) -
     ensures { Puts K.told K.faults K.settled K.lenders out.old out.new (pieces_text (shape_end index.now shape (kids_of elem.now))) result }
 {
     put_marks_of(index, shape, elem, out)?;
+    put_before_closing(shape, elem, out)?;
     put_piece(shape.closing(), out)
+}
+
+// Puts the last delimiter of parts of an equation.
+fn put_before_closing<K: Sink>(shape: Shape, elem: &Elem, out: &mut K) -> Result<(), Failed>
+    ensures { Puts K.told K.faults K.settled K.lenders out.old out.new (pieces_text (before_closing shape (kids_of elem.now))) result }
+{
+    match shape {
+        Shape::Delimiters => put_delimiter(Property::LastDelimiter, elem, out),
+        _ => Ok(()),
+    }
 }
 
 // Puts the members of the mark of a paragraph.

@@ -1,9 +1,10 @@
 //! What is round the nodes of a list.
 
-ghost use Rattle.std.specs.Prelude.{◌≡◌};
+ghost use Rattle.std.specs.Prelude.{◌≡◌, ◌||◌};
 ghost use Rattle.redl_tree.specs.Model.View.{tag_of};
+ghost use Rattle.redl_tree.specs.Roles.Names.{is, is_math, named_math};
 
-use redl_tree::{Elem, Word, is_named, is_quiet, is_word};
+use redl_tree::{Elem, Space, Word, is_named, is_quiet, is_word};
 
 /// What is round the nodes of a list.
 #[derive(Clone, Copy)]
@@ -34,7 +35,7 @@ impl PageSummary {
     {
         PageSummary {
             loud: self.loud && !is_quiet(elem),
-            shows: self.loud && (is_named(elem, b"t") || is_word(elem, Word::DelText)),
+            shows: self.loud && is_text(elem),
         }
     }
 
@@ -47,4 +48,18 @@ impl PageSummary {
             shows: self.loud && local == b"t".as_slice(),
         }
     }
+}
+
+// Whether an element is a text, a deleted one or one of an equation too.
+fn is_text(elem: &Elem) -> bool
+    ensures { result ≡ (is "t" (tag_of elem.now) || is "delText" (tag_of elem.now) || is_math "t" (tag_of elem.now)) }
+{
+    is_named(elem, b"t") || is_word(elem, Word::DelText) || is_in_math(elem, b"t")
+}
+
+/// Whether an element of mathematics has this local name.
+pub(crate) fn is_in_math(elem: &Elem, name: &[u8]) -> bool
+    ensures { result ≡ named_math name.now (tag_of elem.now) }
+{
+    elem.space() == Space::M && elem.local() == name
 }

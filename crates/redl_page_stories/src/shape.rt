@@ -2,13 +2,14 @@
 
 ghost use Rattle.std.specs.Prelude.{◌≡◌, ◌||◌, codes, if◌then◌else◌};
 ghost use Rattle.redl_tree.specs.Model.View.{nodes_of, item_of, tag_of, kids_of};
-ghost use Rattle.redl_tree.specs.Roles.Names.{is, of_w};
+ghost use Rattle.redl_tree.specs.Roles.Names.{is, is_m, is_math, of_w};
 ghost use Rattle.redl_idle.specs.Ahead.{Begins};
 ghost use Rattle.redl_page_stories.specs.Inside.Idle.{idle_shape};
-ghost use Rattle.redl_page_stories.specs.Shapes.{closing, hidden_shape, holds_blocks, holds_list, inline_named, inline_shape, is_block, is_foreign, is_note, is_other_form, is_paragraph, is_reference, opening, run_shape, set_shape, shape_named, shape_of};
+ghost use Rattle.redl_page_stories.specs.Shapes.{closing, hidden_shape, holds_blocks, holds_list, inline_named, inline_shape, is_block, is_foreign, is_note, is_other_form, is_paragraph, is_reference, math_shape, opening, run_shape, set_shape, shape_named, shape_of};
 ghost use Rattle.redl_page_stories.specs.Inside.Items.{item_holds};
 
 use crate::emphasis::Emphasis;
+use crate::place::is_in_math;
 use redl_stamp::has_attribute;
 use redl_tree::{Elem, Node, Space, Word, is_word};
 
@@ -65,6 +66,26 @@ pub(crate) enum Shape {
     Foreign,
     /// The second form of content that is kept in two.
     OtherForm,
+    /// An equation.
+    Equation,
+    /// What a structure of an equation is about, or the upper part of a fraction.
+    Argument,
+    /// The lower part of a fraction.
+    Divisor,
+    /// What is below another part, or at its foot.
+    Below,
+    /// What is above another part, or at its head.
+    Above,
+    /// The degree of a root, or a row of a matrix.
+    Bracketed,
+    /// A root.
+    Root,
+    /// A sum, an integral or the like.
+    Operator,
+    /// A part with a sign over it.
+    Accent,
+    /// Parts between two delimiters.
+    Delimiters,
 }
 
 impl Shape {
@@ -108,7 +129,8 @@ impl Shape {
     // The shape of an element that none of the names above is.
     fn among_blocks(elem: &Elem) -> Shape
         ensures { result ≡ (if is_note (tag_of elem.now) then Shape.Note else if holds_list (tag_of elem.now) then Shape.Blocks
-            else if is_foreign (tag_of elem.now) then Shape.Foreign else inline_named (tag_of elem.now)) }
+            else if is_foreign (tag_of elem.now) then Shape.Foreign
+            else if is_m (tag_of elem.now).space then math_shape (tag_of elem.now) else inline_named (tag_of elem.now)) }
     {
         if is_note(elem) {
             return Shape::Note;
@@ -119,7 +141,55 @@ impl Shape {
         if is_foreign(elem) {
             return Shape::Foreign;
         }
+        if elem.space() == Space::M {
+            return Shape::of_math(elem);
+        }
         Shape::inline(elem)
+    }
+
+    // The shape of an element of mathematics.
+    fn of_math(elem: &Elem) -> Shape
+        ensures { result ≡ math_shape (tag_of elem.now) }
+    {
+        if is_in_math(elem, b"oMath") {
+            return Shape::Equation;
+        }
+        if is_in_math(elem, b"e") || is_in_math(elem, b"num") {
+            return Shape::Argument;
+        }
+        if is_in_math(elem, b"den") {
+            return Shape::Divisor;
+        }
+        if is_in_math(elem, b"sub") || is_in_math(elem, b"lim") {
+            return Shape::Below;
+        }
+        if is_in_math(elem, b"sup") {
+            return Shape::Above;
+        }
+        if is_in_math(elem, b"deg") || is_in_math(elem, b"mr") {
+            return Shape::Bracketed;
+        }
+        Shape::signed(elem)
+    }
+
+    // The shape of one that has a sign, or else of none.
+    fn signed(elem: &Elem) -> Shape
+        ensures { result ≡ (if is_math "rad" (tag_of elem.now) then Shape.Root else if is_math "nary" (tag_of elem.now) then Shape.Operator
+            else if is_math "acc" (tag_of elem.now) then Shape.Accent else if is_math "d" (tag_of elem.now) then Shape.Delimiters else Shape.Nothing) }
+    {
+        if is_in_math(elem, b"rad") {
+            return Shape::Root;
+        }
+        if is_in_math(elem, b"nary") {
+            return Shape::Operator;
+        }
+        if is_in_math(elem, b"acc") {
+            return Shape::Accent;
+        }
+        if is_in_math(elem, b"d") {
+            return Shape::Delimiters;
+        }
+        Shape::Nothing
     }
 
     fn of_paragraph(elem: &Elem) -> Shape
@@ -258,6 +328,16 @@ impl Shape {
             Shape::Blocks => b"<!--list-->",
             Shape::Foreign => b"<!--other-->",
             Shape::OtherForm => b"<details><summary>kept in another form</summary>",
+            Shape::Equation => b"<span class=\"equation\">",
+            Shape::Argument => b"(",
+            Shape::Divisor => b"/(",
+            Shape::Below => b"_(",
+            Shape::Above => b"^(",
+            Shape::Bracketed => b"[",
+            Shape::Root => b"&#8730;",
+            Shape::Operator => b"",
+            Shape::Accent => b"&#9676;",
+            Shape::Delimiters => b"",
         }
     }
 
@@ -291,6 +371,16 @@ impl Shape {
             Shape::Note => b"<!--/list-->",
             Shape::Blocks => b"<!--/list-->",
             Shape::Foreign => b"<!--/other-->",
+            Shape::Equation => b"</span>",
+            Shape::Argument => b")",
+            Shape::Divisor => b")",
+            Shape::Below => b")",
+            Shape::Above => b")",
+            Shape::Bracketed => b"]",
+            Shape::Root => b"",
+            Shape::Operator => b"",
+            Shape::Accent => b"",
+            Shape::Delimiters => b"",
         }
     }
 }

@@ -1,11 +1,11 @@
-//! What comes after the opening of a paragraph, of a cell, of a break and of a symbol.
+//! What comes after the opening of a paragraph, of a cell, of a break, of a symbol and of a structure of an equation.
 
 ghost use Rattle.std.specs.Prelude.{◌≡◌, Some, option_map};
 ghost use Rattle.redl_io.specs.Sink.{Puts};
 ghost use Rattle.redl_grammar.specs.References.{reference_at};
 ghost use Rattle.redl_tree.specs.Model.View.{nodes_of};
 ghost use Rattle.redl_html.specs.Pieces.{piece_text, pieces_text};
-ghost use Rattle.redl_page_stories.specs.Shapes.{break_pieces, cell_pieces, character_piece, direction_pieces, is_agreed, merge_pieces, numbered, paragraph_pieces, referenced, span_pieces, symbol_piece, symbol_pieces};
+ghost use Rattle.redl_page_stories.specs.Shapes.{break_pieces, cell_pieces, character_piece, direction_pieces, is_agreed, merge_pieces, numbered, paragraph_pieces, referenced, sign_text, span_pieces, symbol_piece, symbol_pieces};
 
 use crate::emphasis::is_off;
 use crate::shown::put_shown;
@@ -113,6 +113,20 @@ fn put_given_break<K: Sink>(sort: &[u8], out: &mut K) -> Result<(), Failed>
         return put_piece(b"<span class=\"column-end\"></span>", out);
     }
     Ok(())
+}
+
+/// Puts a sign of an equation that is given, or else the usual one. It takes no memory.
+pub(crate) fn put_sign<K: Sink>(
+    sign: Option<&[u8]>,
+    usual: &[u8],
+    out: &mut K,
+) -> Result<(), Failed>
+    ensures { Puts K.told K.faults K.settled K.lenders out.old out.new (sign_text usual.now (option_map (λ sign. sign.now) sign.entry)) result }
+{
+    match sign {
+        Some(sign) => put_shown(sign, out),
+        None => put_piece(usual, out),
+    }
 }
 
 /// Puts the symbol with this number, if it has one, and its end. It takes no memory.

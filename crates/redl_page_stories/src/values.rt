@@ -9,16 +9,16 @@ ghost use Rattle.redl_stamp.specs.Attribute.{has_local_name, written_value};
 ghost use Rattle.redl_laid.specs.Firsts.{first_item};
 ghost use Rattle.redl_tree.specs.Model.IdleTexts.{idle_nodes};
 ghost use Rattle.redl_tree.specs.Model.View.{nodes_of, item_of, tag_of};
-ghost use Rattle.redl_tree.specs.Roles.Names.{is_w};
 ghost use Rattle.redl_html.specs.Pieces.{pieces_text};
-ghost use Rattle.redl_page_stories.specs.Shapes.{given, holds, note_pieces, property_name, style_pieces, value_in, value_of};
+ghost use Rattle.redl_page_stories.specs.Shapes.{given, holds, is_in, note_pieces, property_name, style_pieces, value_in, value_of};
 ghost use Rattle.redl_page_stories.specs.Inside.Items.{item_value, item_value_in};
 
+use crate::place::is_in_math;
 use crate::shown::put_shown;
 use redl_io::{Failed, Sink, put_piece};
 use redl_laid::{First, Laid};
 use redl_markup::{Attribute, next_attribute};
-use redl_tree::{Elem, Node, Plain, Space, Tag, Word, is_named, is_word};
+use redl_tree::{Elem, Node, Plain, Space, Word, is_word};
 
 /// The value of the first attribute of a tag's tail with this local name, as it is written. It takes no memory.
 pub(crate) fn written_value<'a>(tail: &'a [u8], local: &[u8]) -> Option<&'a [u8]>
@@ -52,6 +52,14 @@ pub(crate) enum Property {
     Span,
     /// Whether a cell is merged with those above or below.
     Merge,
+    /// The sign of a sum, an integral or the like.
+    OperatorSign,
+    /// The sign over a part of an equation.
+    AccentSign,
+    /// The sign before parts of an equation.
+    FirstDelimiter,
+    /// The sign after them.
+    LastDelimiter,
 }
 
 impl Property {
@@ -63,6 +71,10 @@ impl Property {
             Property::Direction => b"bidi",
             Property::Span => b"gridSpan",
             Property::Merge => b"vMerge",
+            Property::OperatorSign => b"chr",
+            Property::AccentSign => b"chr",
+            Property::FirstDelimiter => b"begChr",
+            Property::LastDelimiter => b"endChr",
         }
     }
 
@@ -71,10 +83,14 @@ impl Property {
         ensures { Gives (λ value. value.now) result (given self tail.now) }
     {
         match self {
-            Property::Style => written_value(tail, b"val"),
-            Property::Span => written_value(tail, b"val"),
             Property::Direction => Some(value_or_none(tail)),
             Property::Merge => Some(value_or_none(tail)),
+            Property::Style => written_value(tail, b"val"),
+            Property::Span => written_value(tail, b"val"),
+            Property::OperatorSign => written_value(tail, b"val"),
+            Property::AccentSign => written_value(tail, b"val"),
+            Property::FirstDelimiter => written_value(tail, b"val"),
+            Property::LastDelimiter => written_value(tail, b"val"),
         }
     }
 
@@ -85,6 +101,31 @@ impl Property {
         match self {
             Property::Style | Property::Direction => is_word(elem, Word::PPr),
             Property::Span | Property::Merge => is_word(elem, Word::TcPr),
+            Property::OperatorSign => is_in_math(elem, b"naryPr"),
+            Property::AccentSign => is_in_math(elem, b"accPr"),
+            Property::FirstDelimiter | Property::LastDelimiter => is_in_math(elem, b"dPr"),
+        }
+    }
+
+    // Whether an element with this namespace and this local name gives it.
+    fn has_name(self, space: Space, local: &[u8]) -> bool
+        ensures { result ≡ (is_in self space && bytes_eq local.now (property_name self)) }
+    {
+        self.is_in(space) && local == self.name()
+    }
+
+    // Whether it is one of this namespace.
+    fn is_in(self, space: Space) -> bool
+        ensures { result ≡ is_in self space }
+    {
+        match self {
+            Property::Style | Property::Direction | Property::Span | Property::Merge => {
+                space == Space::W
+            }
+            Property::OperatorSign
+            | Property::AccentSign
+            | Property::FirstDelimiter
+            | Property::LastDelimiter => space == Space::M,
         }
     }
 }
@@ -135,7 +176,9 @@ fn node_value_in<'a>(property: Property, node: &'a Node) -> Option<&'a [u8]>
     ensures { Gives (λ value. value.now) result (item_value_in property (item_of node.now)) }
 {
     match node {
-        Node::Elem(elem) if is_named(elem, property.name()) => property.given(elem.tail()),
+        Node::Elem(elem) if property.has_name(elem.space(), elem.local()) => {
+            property.given(elem.tail())
+        }
         Node::Plain(plain) => idle_value_in(property, plain),
         _ => None,
     }
@@ -159,18 +202,11 @@ fn first_value_in<'a>(property: Property, first: &First<'a>) -> Option<&'a [u8]>
     ensures { Gives (λ value. value.now) result (item_value_in property (first_item first.now)) }
 {
     match first {
-        First::Elem(elem) if has_name(&elem.tag, property.name()) => {
+        First::Elem(elem) if property.has_name(elem.tag.space(), elem.tag.local()) => {
             property.given(elem.tag.tail())
         }
         _ => None,
     }
-}
-
-// Whether a tag is that of an element of W with this local name.
-fn has_name(tag: &Tag<'_>, name: &[u8]) -> bool
-    ensures { result ≡ (is_w tag.now.space && bytes_eq tag.now.local name.now) }
-{
-    tag.space() == Space::W && tag.local() == name
 }
 
 /// Puts the style of a paragraph, if it has one, and the end of its start tag. It takes no memory.

@@ -2,7 +2,7 @@
 
 /// The security policy of the page: its own style and script alone, and nothing is ever fetched.
 pub const POLICY: &str =
-    "default-src 'none'; script-src 'sha256-7uAEv7Mj+T6um5pBRtz2xo1/b0atXNTdUVEyoCKDVp0='; style-src 'sha256-hUld2VhN+GMVMylrsZoj2tFJvETEhNq7mN8YNUTNkM4='; base-uri 'none'; form-action 'none'; require-trusted-types-for 'script'; trusted-types 'none'";
+    "default-src 'none'; script-src 'sha256-7uAEv7Mj+T6um5pBRtz2xo1/b0atXNTdUVEyoCKDVp0='; style-src 'sha256-/OLt8KqrdMDYWv561IVcaXhoMpouIkdPhAVfEVTkA1E='; base-uri 'none'; form-action 'none'; require-trusted-types-for 'script'; trusted-types 'none'";
 
 /// The style sheet of the page.
 pub const STYLE: &str = "/* colours, and what all elements share */
@@ -90,6 +90,7 @@ td > p:last-child { margin: 0; }
 .picture { color: var(--soft); }
 .box { display: block; }
 .box, main details { white-space: normal; }
+.equation { border: 1px solid var(--rule); padding: 0 .4em; font-style: italic; }
 .page-end, .column-end { display: block; border-top: 1px dashed var(--soft); font: .7rem/1.4 system-ui, \"Liberation Sans\", sans-serif; color: var(--soft); }
 .page-end::before { content: \"page break\"; }
 .column-end::before { content: \"column break\"; }

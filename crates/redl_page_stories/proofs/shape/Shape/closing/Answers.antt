@@ -76,3 +76,33 @@ returns-in-Blocks c = rw c.in-Blocks.is refl
 
 pub returns-in-Foreign : goal.returns-in-Foreign
 returns-in-Foreign c = rw c.in-Foreign.is refl
+
+pub returns-in-Equation : goal.returns-in-Equation
+returns-in-Equation c = rw c.in-Equation.is refl
+
+pub returns-in-Argument : goal.returns-in-Argument
+returns-in-Argument c = rw c.in-Argument.is refl
+
+pub returns-in-Divisor : goal.returns-in-Divisor
+returns-in-Divisor c = rw c.in-Divisor.is refl
+
+pub returns-in-Below : goal.returns-in-Below
+returns-in-Below c = rw c.in-Below.is refl
+
+pub returns-in-Above : goal.returns-in-Above
+returns-in-Above c = rw c.in-Above.is refl
+
+pub returns-in-Bracketed : goal.returns-in-Bracketed
+returns-in-Bracketed c = rw c.in-Bracketed.is refl
+
+pub returns-in-Root : goal.returns-in-Root
+returns-in-Root c = rw c.in-Root.is refl
+
+pub returns-in-Operator : goal.returns-in-Operator
+returns-in-Operator c = rw c.in-Operator.is refl
+
+pub returns-in-Accent : goal.returns-in-Accent
+returns-in-Accent c = rw c.in-Accent.is refl
+
+pub returns-in-Delimiters : goal.returns-in-Delimiters
+returns-in-Delimiters c = rw c.in-Delimiters.is refl
