@@ -4,7 +4,7 @@ import re
 import time
 
 import pictures
-from page_seen import ENTER, LOCK, REVIEWERS, SPACE, TAB, Seen, in_package, page_of, same, told, wait
+from page_seen import ENTER, IS_OWN, LOCK, REVIEWERS, SPACE, TAB, Seen, in_package, page_of, same, second_page, told, wait
 
 
 SHOWN = """
@@ -257,6 +257,40 @@ def smaller_forms(driven):
     same("what a part is stands in words", headings, [["Footnotes", "/word/footnotes.xml"], ["Header 1", "/word/header1.xml"], ["Header 2", "/word/header2.xml"]])
 
 
+MATH = 'xmlns:m="http://schemas.openxmlformats.org/officeDocument/2006/math"'
+LETTERS = "<m:r><m:t>%s</m:t></m:r>"
+HALF = "<m:f><m:num>%s</m:num><m:den>%s</m:den></m:f>" % (LETTERS % "a &lt; b", LETTERS % "2")
+BARS = '<m:d><m:dPr><m:begChr m:val="|"/><m:endChr m:val="|"/></m:dPr><m:e>%s</m:e></m:d>' % (LETTERS % "x")
+SUM = '<m:nary><m:naryPr><m:chr m:val="\u2211"/></m:naryPr><m:sub>%s</m:sub><m:sup/><m:e>%s</m:e></m:nary>' % (LETTERS % "i", LETTERS % "i")
+HIDDEN = '<w:r><w:rPr><w:i/><w:vanish/></w:rPr><w:t>%s</w:t></w:r>'
+LABEL = "return [...document.querySelectorAll(arguments[0])].map((it) => [it.textContent, getComputedStyle(it, '::before').content])"
+
+
+def plain_and_hidden(driven):
+    """Hidden text, ends of pages, soft hyphens and equations; and the document comes before its headers."""
+    body = (
+        "<w:p>%s%s<w:r><w:rPr><w:vanish w:val=\"0\"/></w:rPr><w:t>seen</w:t></w:r></w:p>" % (HIDDEN % "not ", HIDDEN % "this"),
+        '<w:p><w:r><w:br w:type="page"/><w:t>co</w:t><w:softHyphen/><w:t>op</w:t><w:br w:type="column"/><w:br/></w:r></w:p>',
+        "<w:p><m:oMath %s>%s</m:oMath></w:p>" % (MATH, HALF + SUM + BARS),
+        '<w:p><w:ins w:id="1" w:author="Ann" w:date="2026-11-03T14:30:00Z">%s</w:ins></w:p><w:p/>' % (HIDDEN % "new"),
+    )
+    header = ("/word/header1.xml", "hdr", "<w:p><w:r><w:t>above</w:t></w:r></w:p>")
+    file = os.path.join(driven.folder, "hidden.xml")
+    with open(file, "w", newline="", encoding="utf-8") as out:
+        out.write(in_package("".join(body), [header], is_last=True))
+    whole = page_of(file)
+    if IS_OWN:
+        told("both writers make one page of it", whole == second_page(file))
+    seen = Seen(driven, whole)
+    same("hidden text says so", seen.run(LABEL, "main .hidden"), [["not ", '"hidden: "'], ["this", '"hidden: "'], ["new", '"hidden: "']])
+    same("and in the list", seen.run(LABEL, "aside .hidden"), [["new", '"hidden: "']])
+    same("pages and columns end", seen.run(LABEL, ".page-end, .column-end"), [["", '"page break"'], ["", '"column break"']])
+    told("a soft hyphen is one", "co\u00adop" in seen.run("return document.querySelector('main').textContent"))
+    same("an equation is its linear text", seen.run(LABEL, ".equation"), [["(a < b)/(2)\u2211_(i)^()(i)|(x)|", "none"]])
+    stories = "return [...document.querySelectorAll('main > section')].map((it) => [it.dataset.story, it.querySelector('h2')?.textContent || ''])"
+    same("the document comes first", seen.run(stories), [["document", ""], ["hdr", "Header"]])
+
+
 def pictured(driven, file):
     """The picture of a page for the manual."""
     driven.look(1120, 700)
@@ -280,4 +314,4 @@ def papers_picture(driven):
     pictures.is_of_now(driven, "page.png", made)
 
 
-CASES = [views, read_whole, two_forms, looks, by_keys_alone, for_readers, saved_copy, without_scripts, smaller_forms, papers_picture]
+CASES = [views, read_whole, two_forms, looks, by_keys_alone, for_readers, saved_copy, without_scripts, smaller_forms, plain_and_hidden, papers_picture]

@@ -57,9 +57,10 @@ PART = '<pkg:part pkg:name="%s" pkg:contentType="x"><pkg:xmlData><w:%s xmlns:w="
 WORD = "http://schemas.openxmlformats.org/wordprocessingml/2006/main"
 
 
-def in_package(body, more=()):
-    """A package with this body, and with more parts, each a name, a root and what it holds."""
-    parts = [("/word/document.xml", "document", "<w:body>%s</w:body>" % body), *more]
+def in_package(body, more=(), is_last=False):
+    """A package with this body, and with more parts behind it or before it, each a name, a root and what it holds."""
+    whole = [("/word/document.xml", "document", "<w:body>%s</w:body>" % body)]
+    parts = [*more, *whole] if is_last else [*whole, *more]
     return PACKAGE % "".join(PART % (name, root, WORD, inside, root) for name, root, inside in parts)
 
 
