@@ -1,0 +1,19 @@
+-- Node by node.
+use Rattle.std.proofs.Common.{◌∙◌, ◌+◌, ap, sym, arith, drop}
+use Rattle.redl_tree.specs.Model.View.{item_of, nodes_of}
+use Rattle.redl_tree.proofs.Model.Laws.{nodes_here}
+use Rattle.redl_spans.specs.Walks.{walked}
+use Rattle.redl_spans.proofs.WalkLaws.{walked-in_front}
+use Rattle.redl_spans.proofs.walk.+walk.Goals as goal
+
+pub walk_nodes-loop-node-preserved : goal.walk_nodes-loop-node-preserved
+walk_nodes-loop-node-preserved t c =
+    let in_text = c.args.in_text in
+    let nodes = c.args.nodes.now in
+    let i = c.loop-node.node-index in
+    let x = c.node-item.result in
+    let rest = nodes_of (drop (i + 1) nodes) in
+    let w = c.loop-node.walk in
+    ap (walked in_text rest) c.in_ok-walk_node.ensures
+    ∙ sym (ap (λ ns. walked in_text ns w) (nodes_here nodes i x (omega arith) c.node-item.is) ∙ walked-in_front in_text (item_of x) rest w)
+    ∙ c.loop-node.invariant

@@ -1,0 +1,8 @@
+use Rattle.std.proofs.Common.{◌≡◌, drop}
+use Rattle.redl_tree.specs.Model.View.{nodes_of}
+use Rattle.redl_spans.specs.Walks.{walked}
+use Rattle.redl_spans.proofs.walk.+walk.Given as goal
+
+-- the walk over the nodes that are left comes to the same as that over all of them
+abbrev pub invariant-walk_nodes-loop-node : goal.invariant-walk_nodes-loop-node
+invariant-walk_nodes-loop-node l = walked l.in_text (nodes_of (drop l.node-index l.nodes)) l.walk ≡ walked l.in_text (nodes_of l.nodes) l.initial.walk

@@ -1,0 +1,4 @@
+-- What no public clause of this crate names: how its own code is stated.
+pub mod Items
+pub mod Steps
+pub mod Idle

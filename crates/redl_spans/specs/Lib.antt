@@ -1,0 +1,5 @@
+pub mod Units
+pub mod Members
+pub mod Walks
+pub mod Stories
+pub mod Inside
