@@ -1,0 +1,4 @@
+mod Rows
+pub mod FirstLaws
+pub mod ThreadLaws
+pub mod ItemLaws

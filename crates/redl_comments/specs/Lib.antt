@@ -1,0 +1,4 @@
+pub mod Comments
+pub mod Threads
+pub mod Firsts
+pub mod Inside
