@@ -1,0 +1,6 @@
+mod Rows
+pub mod FoundLaws
+pub mod AlongLaws
+pub mod OrderLaws
+pub mod OnLaws
+pub mod EndLaws
