@@ -36,18 +36,23 @@ def parts_of(package):
     return found
 
 
-def part_beside(package, ending, local):
-    """The root with this name of the part that the relationships of the first document part name, or None."""
+def roots_beside(package, ending):
+    """What is in the part to which the relationship of the first document part with this type leads."""
     parts = parts_of(package)
     name = next((name for name, root in package.stories if root.is_w("document")), None)
     if name is None:
-        return None
+        return []
     folder, _, file = name.rpartition("/")
     for it in [it for root in parts.get(folder + "/_rels/" + file + ".rels", []) for it in kids(root)]:
         if it.local == "Relationship" and (it.attribute("Type") or "").endswith(ending) and it.attribute("TargetMode") != "External":
             target = it.attribute("Target") or ""
-            return first(parts.get(target if target.startswith("/") else folder + "/" + target, []), local)
-    return None
+            return parts.get(target if target.startswith("/") else folder + "/" + target, [])
+    return []
+
+
+def part_beside(package, ending, local):
+    """The root with this name of that part, or None."""
+    return first(roots_beside(package, ending), local)
 
 
 # Properties

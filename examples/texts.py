@@ -11,6 +11,7 @@ import reading
 
 SIGNS = {"inserted": ("{+", "+}"), "deleted": ("[-", "-]"), "from": ("[~", "~]"), "to": ("{~", "~}")}
 STARTS = {"tab": "\t", "br": "\n", "cr": "\n"}
+BREAKS = ("tab", "br", "cr", "p")
 
 
 def shown(stretch):
@@ -24,6 +25,30 @@ def shown(stretch):
         elif not piece.startswith("<"):
             out += piece
     return out
+
+
+def said(nodes, in_line, in_text=False):
+    """What nodes say; in a line without the paragraphs inside."""
+    out = ""
+    for node in nodes:
+        if isinstance(node, str):
+            out += shown(node) if in_text else ""
+        elif not reading.is_quiet(node) and not (in_line and node.is_w("p")):
+            if node.is_w(*BREAKS):
+                out += " "
+            elif node.is_w("noBreakHyphen"):
+                out += "\u2011"
+            out += said(node.kids, in_line, node.is_w("t", "delText"))
+    return out
+
+
+def spaced(text):
+    return re.sub("[ \t\r\n]+", " ", text)
+
+
+def shortened(text, room):
+    text = spaced(text)
+    return text[:room] + ("\u2026" if text[room:].strip(" ") else "")
 
 
 def stories(nodes, part=None):

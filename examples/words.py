@@ -15,31 +15,6 @@ import reading
 import texts
 
 SIGNS = {"ins": ("{+", "+}"), "del": ("[-", "-]"), "from": ("[~", "~]"), "to": ("{~", "~}")}
-BREAKS = ("tab", "br", "cr", "p")
-
-
-def said(nodes, in_line, in_text=False):
-    """What nodes say; in a line without the paragraphs inside."""
-    out = ""
-    for node in nodes:
-        if isinstance(node, str):
-            out += texts.shown(node) if in_text else ""
-        elif not reading.is_quiet(node) and not (in_line and node.is_w("p")):
-            if node.is_w(*BREAKS):
-                out += " "
-            elif node.is_w("noBreakHyphen"):
-                out += "\u2011"
-            out += said(node.kids, in_line, node.is_w("t", "delText"))
-    return out
-
-
-def spaced(text):
-    return re.sub("[ \t\r\n]+", " ", text)
-
-
-def shortened(text, room):
-    text = spaced(text)
-    return text[:room] + ("\u2026" if text[room:].strip(" ") else "")
 
 
 def owner_of(member):
@@ -60,7 +35,7 @@ def before_in(paragraph, element):
             if isinstance(node, str):
                 out += texts.shown(node) if in_text else ""
             elif not reading.is_quiet(node) and not node.is_w("p"):
-                out += said([cut(node)], True)
+                out += texts.said([cut(node)], True)
                 inner, found = walk(node.kids, node.is_w("t", "delText"))
                 out += inner
                 if found:
@@ -80,10 +55,10 @@ def round_of(element):
     paragraph = next((above for above in element.ancestors() if above.is_w("p")), None)
     if paragraph is None:
         return "", ""
-    line = spaced(said(paragraph.kids, True)).removeprefix(" ")
-    start = len(spaced(before_in(paragraph, element)).removeprefix(" "))
-    whole = before_in(paragraph, element) + said(element.kids, True)
-    end = len(spaced(whole).removeprefix(" "))
+    line = texts.spaced(texts.said(paragraph.kids, True)).removeprefix(" ")
+    start = len(texts.spaced(before_in(paragraph, element)).removeprefix(" "))
+    whole = before_in(paragraph, element) + texts.said(element.kids, True)
+    end = len(texts.spaced(whole).removeprefix(" "))
     return line[:start], line[end:]
 
 
@@ -91,9 +66,9 @@ def mention(member):
     """What a member tells: its words, and what stands before and behind them."""
     if member.role == "mark":
         paragraph = next(above for above in member.ancestors() if above.is_w("p"))
-        return "\u00b6", spaced(said(paragraph.kids, True)).removeprefix(" "), ""
+        return "\u00b6", texts.spaced(texts.said(paragraph.kids, True)).removeprefix(" "), ""
     element = member if member.role == "content" else owner_of(member)
-    words = said(element.kids, False)
+    words = texts.said(element.kids, False)
     if element.is_w("p"):
         return words, "", ""
     return (words, *round_of(element))
@@ -111,11 +86,11 @@ def members_of(package, number):
 def excerpt(package, number):
     kind = package.revisions[number - 1].kind
     told = [mention(member) for member in members_of(package, number)]
-    words = spaced("".join(words for words, _, _ in told))
+    words = texts.spaced("".join(words for words, _, _ in told))
     if not (kind in ("ins", "del", "move") or kind.startswith(("move-", "mark-"))):
         words = words.removeprefix(" ")
     before = told[0][1][-40:] if told else ""
-    return shortened(words, 200), before, told[-1][2][:40] if told else ""
+    return texts.shortened(words, 200), before, told[-1][2][:40] if told else ""
 
 
 def changed(package, number):
@@ -152,13 +127,13 @@ def listed(package, entries, shown=None):
         verdict = reading.verdict(number, entries)
         begin, end = signs_of(revision.kind)
         masked = reading.masked
-        inside = masked(shortened(words, 30)) + end
+        inside = masked(texts.shortened(words, 30)) + end
         if revision.kind in reading.CHANGES.values():
-            inside = masked(formats.line(changed(package, number))) + end + masked(shortened(words, 30))
+            inside = masked(formats.line(changed(package, number))) + end + masked(texts.shortened(words, 30))
         clause = clauses.clause_of(package, number)
         quoted = "" if clause is None else masked(clause) + " "
-        quoted += masked(near_end(before)) + begin + inside + masked(shortened(after, 10))
-        line = "%5d %-12s %-8s %-13s %s" % (number, revision.kind, verdict, shortened(masked(revision.author), 12), quoted)
+        quoted += masked(near_end(before)) + begin + inside + masked(texts.shortened(after, 10))
+        line = "%5d %-12s %-8s %-13s %s" % (number, revision.kind, verdict, texts.shortened(masked(revision.author), 12), quoted)
         place = places.place_of(package, number)
         line += "" if place == "document" else "  " + place
         said = "".join("  %s: %s" % (masked(entry.reviewer), entry.word) for entry in says_of(number, entries))
