@@ -9,6 +9,7 @@ use Rattle.redl_places.specs.declared.place.StoryPlace.TheVariants.{Document}
 use Rattle.redl_excerpts.specs.declared.excerpt.Excerpt.{Excerpt}
 use Rattle.redl_excerpts.specs.Phrases.{kept_text}
 use Rattle.redl_excerpts.specs.Excerpts.{excerpts_of}
+use Rattle.redl_excerpts.specs.Remarks.{IsRemark, Remarks, no_remarks}
 use Rattle.redl_index.specs.declared.revision.Revision.{Revision}
 use Rattle.redl_join.specs.LastWords.{last_words}
 use Rattle.redl_journal.specs.declared.entry.Entry.{Entry}
@@ -35,11 +36,12 @@ detail_of excerpt place entries = record {
   clause = None;
   place = place;
   says = map last_word_of entries;
+  remarks = no_remarks;
 }
 
 -- no detail
 abbrev pub no_detail : Detail
-no_detail = record { words = []; before = []; after = []; id = None; changed = nothing_changed; clause = None; place = Document; says = [] }
+no_detail = record { words = []; before = []; after = []; id = None; changed = nothing_changed; clause = None; place = Document; says = []; remarks = no_remarks }
 
 -- the detail of a revision, if there is an excerpt of it
 abbrev pub detail_if : Option Excerpt → StoryPlace → List Entry → Detail
@@ -49,6 +51,10 @@ detail_if (Some excerpt) place entries = detail_of excerpt place entries
 -- the same with this clause
 abbrev pub with_clause : Detail → Option (List ℕ) → Detail
 with_clause detail clause = record detail { clause = clause }
+
+-- the same with these comments
+abbrev pub with_remarks : Detail → Remarks → Detail
+with_remarks detail remarks = record detail { remarks = remarks }
 
 -- the details of revisions, of which the first has this number
 abbrev pub details_from : ℕ → List (Option Excerpt) → (ℕ → StoryPlace) → (ℕ → List Entry) → List Detail
@@ -68,6 +74,7 @@ pub record IsDetail (detail : Detail) : Type 0 where
   pub id : IfSome detail.id IsUtf8
   pub clause : IfSome detail.clause IsUtf8
   pub says : All (λ (said : LastWord). IsUtf8 said.reviewer) detail.says
+  pub remarks : All IsRemark detail.remarks.first
 
 -- the details of the revisions of a package that are wanted, on which a book has these entries, and none of each other one
 abbrev pub package_details : Nodes → List Revision → List Bool → List Entry → List Detail

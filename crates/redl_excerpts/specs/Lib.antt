@@ -5,5 +5,6 @@ pub mod Ears
 pub mod Mentions
 pub mod Excerpts
 pub mod Inside
+pub mod Remarks
 pub mod Details
 pub mod Properties

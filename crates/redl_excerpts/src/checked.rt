@@ -9,7 +9,7 @@ use redl_io::Text;
 use std::alloc::{AllocError, Global};
 
 /// A copy of the bytes, where they are UTF-8, and else of nothing. `Err` means out of memory.
-pub(crate) fn checked(alloc: Global, bytes: &[u8]) -> Result<Text, AllocError>
+pub fn checked_copy(alloc: Global, bytes: &[u8]) -> Result<Text, AllocError>
     ensures value { IfOk result (λ text. text ≡ text_or_nothing bytes.now) }
     ensures utf8 { IfOk result IsUtf8 }
 {

@@ -5,11 +5,13 @@ ghost use Rattle.std.specs.Map.Iter.{deref};
 ghost use Rattle.std.specs.Str.{IsUtf8};
 ghost use Rattle.redl_join.specs.LastWords.{words_on};
 ghost use Rattle.redl_places.specs.Views.{place_at};
-ghost use Rattle.redl_excerpts.specs.Details.{IsDetail, detail_if, detail_of, details_of, no_detail, with_clause};
+ghost use Rattle.redl_excerpts.specs.Details.{IsDetail, detail_if, detail_of, details_of, no_detail, with_clause, with_remarks};
+ghost use Rattle.redl_excerpts.specs.Remarks.{IsRemark};
 
 use crate::Excerpt;
 use crate::checked::{kept, kept_if_any};
 use crate::last_word::Says;
+use crate::remark::{Remarks, copy_if_any};
 use redl_changed::ChangedSaid;
 use redl_io::Text;
 use redl_join::LastWords;
@@ -36,6 +38,8 @@ pub struct Detail {
     pub place: StoryPlace,
     /// Who said what.
     pub says: Says,
+    /// The comments on the revision.
+    pub remarks: Remarks,
 }
 
 impl Detail {
@@ -52,6 +56,7 @@ impl Detail {
             clause: None,
             place: StoryPlace::Document,
             says: Says::none(alloc),
+            remarks: Remarks::none(alloc),
         })
     }
 
@@ -87,6 +92,7 @@ impl Detail {
             clause: None,
             place,
             says,
+            remarks: Remarks::none(alloc),
         })
     }
 
@@ -100,6 +106,16 @@ impl Detail {
         Detail { clause, ..self }
     }
 
+    /// The same with these comments.
+    pub fn with_remarks(self, remarks: Remarks) -> Detail
+        requires detail { IsDetail self }
+        requires remarks { All IsRemark remarks.first }
+        ensures value { result ≡ with_remarks self remarks }
+        ensures utf8 { IsDetail result }
+    {
+        Detail { remarks, ..self }
+    }
+
     /// An equal detail. `Err` means out of memory.
     pub fn copy(&self, alloc: Global) -> Result<Detail, AllocError>
         ensures { IfOk result (λ copy. copy ≡ self.now) }
@@ -111,6 +127,7 @@ impl Detail {
         let changed = self.changed.copy(alloc)?;
         let clause = copy_if_any(alloc, &self.clause)?;
         let says = self.says.copy(alloc)?;
+        let remarks = self.remarks.copy(alloc)?;
         Ok(Detail {
             words,
             before,
@@ -120,19 +137,8 @@ impl Detail {
             clause,
             place: self.place,
             says,
+            remarks,
         })
-    }
-}
-
-fn copy_if_any(alloc: Global, text: &Option<Text>) -> Result<Option<Text>, AllocError>
-    ensures { IfOk result (λ copy. copy ≡ text.now) }
-{
-    match text {
-        Some(text) => {
-            let copy = text.copy(alloc)?;
-            Ok(Some(copy))
-        }
-        None => Ok(None),
     }
 }
 

@@ -5,7 +5,7 @@ ghost use Rattle.std.specs.Map.Iter.{deref};
 ghost use Rattle.std.specs.Str.{IsUtf8};
 ghost use Rattle.redl_excerpts.specs.Details.{last_word_of};
 
-use crate::checked::checked;
+use crate::checked::checked_copy;
 use redl_io::Text;
 use redl_journal::{Entry, Word};
 use std::alloc::{AllocError, Global};
@@ -41,7 +41,7 @@ impl LastWord {
         ensures value { IfOk result (λ said. said ≡ last_word_of entry.now) }
         ensures utf8 { IfOk result (λ said. IsUtf8 said.reviewer) }
     {
-        let reviewer = checked(alloc, entry.reviewer.as_bytes())?;
+        let reviewer = checked_copy(alloc, entry.reviewer.as_bytes())?;
         Ok(LastWord {
             reviewer,
             word: entry.word,

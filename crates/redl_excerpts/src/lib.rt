@@ -23,8 +23,10 @@ mod members;
 mod package;
 mod phrase;
 mod properties;
+mod remark;
 mod said;
 
+pub use checked::checked_copy;
 pub use detail::{Detail, details};
 pub use detailed::package_details;
 pub use ear::Ear;
@@ -35,4 +37,5 @@ pub use line::{Line, LinePlace, before, behind, characters_in, without_character
 pub use package::excerpts;
 pub use phrase::{Phrase, shortened};
 pub use properties::changed_lines;
+pub use remark::{Remark, Remarks};
 pub use said::{holds_text, is_paragraph, tell_bytes, tell_nodes, tell_start};
