@@ -1,4 +1,5 @@
 pub mod ChangedLaws
+pub mod RemarkLaws
 pub mod FullLaws
 pub mod JsonLaws
 pub mod RowLaws

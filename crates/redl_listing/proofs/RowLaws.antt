@@ -136,4 +136,5 @@ no_detail-is = record {
   id = tt;
   clause = tt;
   says = λ k d h. absurd (omega (arith, h));
+  remarks = λ k d h. absurd (omega (arith, h));
 }

@@ -15,7 +15,7 @@ use Rattle.redl_formats.specs.Fields.{newline}
 use Rattle.redl_terminal.specs.Masks.{hidden_length}
 use Rattle.redl_listing.specs.Words.{dots, in_paragraph, numbered_columns, quoted, words_columns, words_row}
 
--- a disputed deletion in a footnote: both neighbours are cut, and who said what comes last
+-- a disputed deletion in a footnote, with two comments: both neighbours are cut, and who said what comes last
 deletion : Row
 deletion = record {
   number = 32;
@@ -34,11 +34,12 @@ deletion = record {
     clause = Some (codes "4.2(a)");
     place = Footnote (Some (Count 3));
     says = record { reviewer = codes "Ann Gray"; word = word.Accept } ∷ record { reviewer = codes "Bob Hay"; word = word.Reject } ∷ [];
+    remarks = record { first = []; count = 2 };
   };
 }
 
 row_disputed : words_row deletion
-    ≡ codes "   32 del          disputed Bob Hay       4.2(a) " ++ dots ++ codes "due within [-thirty-]fourteen d" ++ dots ++ codes "  footnote 3  Ann Gray: accept  Bob Hay: reject" ++ newline
+    ≡ codes "   32 del          disputed Bob Hay       4.2(a) " ++ dots ++ codes "due within [-thirty-]fourteen d" ++ dots ++ codes "  (2 comments)  footnote 3  Ann Gray: accept  Bob Hay: reject" ++ newline
 unfolding deletion words_row words_columns numbered_columns quoted in_paragraph hidden_length digits heard_byte paused begun
 row_disputed = refl
 
@@ -46,7 +47,7 @@ row_disputed = refl
 arrow : List ℕ
 arrow = 226 ∷ 134 ∷ 146 ∷ 32 ∷ []
 
--- an accepted change of a paragraph by an author with a long name, and words that are cut
+-- an accepted change of a paragraph by an author with a long name, with one comment, and words that are cut
 change : Row
 change = record {
   number = 7;
@@ -56,9 +57,9 @@ change = record {
   seconds = None;
   part = codes "/word/document.xml";
   members = 1;
-  detail = record { words = codes "The Seller delivers the goods to the store"; before = []; after = []; id = None; changed = record { changes = []; more = Some 0; line = codes "alignment: not set " ++ (arrow ++ codes "justified") }; clause = None; place = Document; says = [] };
+  detail = record { words = codes "The Seller delivers the goods to the store"; before = []; after = []; id = None; changed = record { changes = []; more = Some 0; line = codes "alignment: not set " ++ (arrow ++ codes "justified") }; clause = None; place = Document; says = []; remarks = record { first = []; count = 1 } };
 }
 
-row_change : words_row change ≡ codes "    7 para-props   accept   Dana Fox & C" ++ dots ++ codes " {=alignment: not set " ++ arrow ++ codes "justified=}The Seller delivers the goods " ++ dots ++ newline
+row_change : words_row change ≡ codes "    7 para-props   accept   Dana Fox & C" ++ dots ++ codes " {=alignment: not set " ++ arrow ++ codes "justified=}The Seller delivers the goods " ++ dots ++ codes "  (1 comment)" ++ newline
 unfolding change arrow words_row words_columns numbered_columns quoted in_paragraph hidden_length digits heard_byte paused begun
 row_change = refl

@@ -9,6 +9,7 @@ use Rattle.redl_places.specs.Texts.{place_text}
 use Rattle.redl_kinds.specs.KindNames.{kind_name}
 use Rattle.redl_journal.specs.Journals.{word_text}
 use Rattle.redl_listing.specs.declared.row.Row.{Row}
+use Rattle.redl_listing.specs.Remarks.{json_remarks, more_remarks, remarks_tokens}
 use Rattle.redl_listing.specs.Changed.{changed_tokens, json_changed, json_more, more_token}
 use Rattle.redl_formats.specs.Formats.{array_of}
 use Rattle.redl_formats.specs.Fields.{date_token, json_date, verdict_name}
@@ -46,6 +47,8 @@ full_object row =
     (member (codes "changed") (array (json_changed row.detail.changed.changes))
     (member (codes "changed_more") (json_more row.detail.changed.more)
     (member (codes "clause") (json_id row.detail.clause)
+    (member (codes "comments") (array (json_remarks row.detail.remarks.first))
+    (member (codes "comments_more") (number (unsigned (more_remarks row.detail.remarks)))
     (member (codes "date") (json_date row.seconds)
     (member (codes "id") (json_id row.detail.id)
     (member (codes "kind") (string (kind_name row.kind))
@@ -55,12 +58,15 @@ full_object row =
     (member (codes "place") (string (place_text row.detail.place))
     (member (codes "says") (array (json_says row.detail.says))
     (member (codes "verdict") (string (verdict_name row.verdict))
-    (member (codes "words") (string row.detail.words) no_members))))))))))))))))
+    (member (codes "words") (string row.detail.words) no_members))))))))))))))))))
 
--- the members between the changed properties and the place, as they are written
+-- the members between the changed properties and the comments, and those between these and the place, as they are written
+abbrev pub clause_tokens : Row → List Token
+clause_tokens row = key (codes "changed_more") ∷ more_token row.detail.changed.more ∷ key (codes "clause") ∷ id_token row.detail.clause ∷ []
+
 abbrev pub behind_tokens : Row → List Token
 behind_tokens row =
-    key (codes "changed_more") ∷ more_token row.detail.changed.more ∷ key (codes "clause") ∷ id_token row.detail.clause ∷ key (codes "date") ∷ date_token row.seconds ∷ key (codes "id") ∷ id_token row.detail.id ∷ key (codes "kind") ∷ string_token (kind_name row.kind)
+    key (codes "date") ∷ date_token row.seconds ∷ key (codes "id") ∷ id_token row.detail.id ∷ key (codes "kind") ∷ string_token (kind_name row.kind)
     ∷ key (codes "members") ∷ number_token (decimal row.members) ∷ key (codes "number") ∷ number_token (decimal row.number)
     ∷ key (codes "part") ∷ string_token row.part ∷ []
 
@@ -68,7 +74,7 @@ behind_tokens row =
 abbrev pub front_tokens : Row → List Token
 front_tokens row =
     key (codes "after") ∷ string_token row.detail.after ∷ key (codes "author") ∷ string_token row.author
-    ∷ key (codes "before") ∷ string_token row.detail.before ∷ (changed_tokens row.detail.changed.changes ++ behind_tokens row)
+    ∷ key (codes "before") ∷ string_token row.detail.before ∷ (changed_tokens row.detail.changed.changes ++ (clause_tokens row ++ (remarks_tokens row.detail.remarks ++ behind_tokens row)))
 
 -- its text without white space
 unfoldable pub full_row : Row → List ℕ

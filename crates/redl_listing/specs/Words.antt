@@ -8,6 +8,7 @@ use Rattle.redl_excerpts.specs.Lines.{characters_in, without_characters}
 use Rattle.redl_excerpts.specs.Phrases.{heard, kept_text, nothing_heard}
 use Rattle.redl_excerpts.specs.declared.detail.Detail.{Detail}
 use Rattle.redl_excerpts.specs.declared.last_word.LastWord.{LastWord}
+use Rattle.redl_listing.specs.Remarks.{remarks_words}
 use Rattle.redl_places.specs.Places.{is_document}
 use Rattle.redl_places.specs.Texts.{place_text}
 use Rattle.redl_places.specs.declared.place.StoryPlace.{StoryPlace}
@@ -116,4 +117,4 @@ says_text Accept says = []
 says_text Reject says = []
 
 unfoldable pub words_row : Row → List ℕ
-words_row row = words_columns row ++ (quoted row ++ (place_words row.detail.place ++ (says_text row.verdict row.detail.says ++ newline)))
+words_row row = words_columns row ++ (quoted row ++ (remarks_words row.detail.remarks.count ++ (place_words row.detail.place ++ (says_text row.verdict row.detail.says ++ newline))))

@@ -33,8 +33,8 @@ pub(crate) fn put_more(object: &mut Writer, more: Option<usize>) -> Result<(), A
     }
 }
 
-// Writes a member that is a number. `Err` means out of memory.
-fn put_count(object: &mut Writer, name: &str, count: usize) -> Result<(), AllocError>
+/// Writes a member that is a number. `Err` means out of memory.
+pub(crate) fn put_count(object: &mut Writer, name: &str, count: usize) -> Result<(), AllocError>
     ensures written { OnOk result (object.new.tokens ≡ object.old.tokens ++ key_token name.now ∷ number_token (decimal count) ∷ []) }
     ensures before { OnOk result (object.new.before ≡ object.old.before) }
 {

@@ -5,9 +5,10 @@ ghost use Rattle.std.specs.List.{flat_map};
 ghost use Rattle.std.specs.Str.{IsUtf8};
 ghost use Rattle.json.specs.Token.{begin_array as begin_array_token, end_array as end_array_token, key as key_token};
 ghost use Rattle.redl_listing.specs.Rows.{IsRow};
-ghost use Rattle.redl_listing.specs.Full.{behind_tokens, front_tokens, full_row, id_token, said_tokens};
+ghost use Rattle.redl_listing.specs.Full.{behind_tokens, clause_tokens, front_tokens, full_row, id_token, said_tokens};
 
 use crate::changed_rows::{put_changed, put_more};
+use crate::remark_rows::put_remarks;
 use crate::row::Row;
 use json::Writer;
 use redl_excerpts::LastWord;
@@ -64,18 +65,28 @@ fn put_front(object: &mut Writer, row: &Row) -> Result<(), AllocError>
     put_text(object, "author", row.author.as_bytes())?;
     put_text(object, "before", row.detail.before.as_bytes())?;
     put_changed(object, row.detail.changed.changes.list())?;
+    put_clause(object, row)?;
+    put_remarks(object, &row.detail.remarks)?;
     put_behind(object, row)?;
     Ok(())
 }
 
-// Writes the members between the changed properties and the place. `Err` means out of memory.
+// Writes the members between the changed properties and the comments. `Err` means out of memory.
+fn put_clause(object: &mut Writer, row: &Row) -> Result<(), AllocError>
+    requires { IsRow row.now }
+    ensures written { OnOk result (object.new.tokens ≡ object.old.tokens ++ clause_tokens row.now) }
+    ensures before { OnOk result (object.new.before ≡ object.old.before) }
+{
+    put_more(object, row.detail.changed.more)?;
+    put_if_any(object, "clause", &row.detail.clause)
+}
+
+// Writes the members between the comments and the place. `Err` means out of memory.
 fn put_behind(object: &mut Writer, row: &Row) -> Result<(), AllocError>
     requires { IsRow row.now }
     ensures written { OnOk result (object.new.tokens ≡ object.old.tokens ++ behind_tokens row.now) }
     ensures before { OnOk result (object.new.before ≡ object.old.before) }
 {
-    put_more(object, row.detail.changed.more)?;
-    put_if_any(object, "clause", &row.detail.clause)?;
     put_date(object, row.seconds)?;
     put_if_any(object, "id", &row.detail.id)?;
     put_text(object, "kind", row.kind.name().as_bytes())?;

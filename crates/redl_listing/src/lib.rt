@@ -14,6 +14,7 @@ mod full_rows;
 mod json_rows;
 mod listing;
 mod named;
+mod remark_rows;
 mod row;
 mod tab_rows;
 mod text_rows;

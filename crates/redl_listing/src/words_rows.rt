@@ -7,6 +7,7 @@ ghost use Rattle.redl_terminal.specs.Masks.{masked};
 ghost use Rattle.redl_terminal.specs.declared.extent.Extent.TheVariants.{Field};
 ghost use Rattle.redl_listing.specs.Words.{clause_text, closing, closing_of, in_paragraph, in_places, inside, near_end, numbered_columns, opening, opening_of, outside, place_words, quoted, said_text, says_text, shortened, words_columns, words_row};
 
+use crate::remark_rows::push_remarks;
 use crate::row::Row;
 use redl_excerpts::{Detail, LastWord, Says, characters_in, shortened, without_characters};
 use redl_formats::{ItemText, push_left, push_number, push_spaces, verdict_name, word_name};
@@ -57,6 +58,7 @@ fn push_words_row(line: &mut Vec<u8>, row: &Row) -> Result<(), AllocError>
 {
     push_words_columns(line, row)?;
     push_quoted(line, row)?;
+    push_remarks(line, row.detail.remarks.count())?;
     push_place(line, row.detail.place)?;
     push_says(line, row.verdict, &row.detail.says)?;
     line.push(b'\n')?;
