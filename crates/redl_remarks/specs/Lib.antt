@@ -1,0 +1,3 @@
+pub mod Remarked
+-- What no public clause of this crate names: how its own code is stated.
+pub mod Inside
