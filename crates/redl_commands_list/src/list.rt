@@ -10,14 +10,13 @@ ghost use Rattle.redl_inputs.specs.Views.{admission_view, result_view};
 ghost use Rattle.redl_io.specs.Limits.{journal_bytes};
 ghost use Rattle.redl_commands.specs.Writing.{outcome_of};
 ghost use Rattle.redl_excerpts.specs.Details.{IsDetail};
-ghost use Rattle.redl_clauses.specs.Clauses.{numbered_details};
+ghost use Rattle.redl_remarks.specs.Remarked.{remarked_details};
 ghost use Rattle.redl_formats.specs.Formats.{IsListed, without_named};
 ghost use Rattle.redl_listing.specs.Rows.{shown_rows, shows_details, told_rows};
 ghost use Rattle.redl_opc.specs.Shape.{parts_of};
 ghost use Rattle.redl_words.specs.Views.{onlys_view};
 
 use crate::shown::shown_revisions;
-use redl_clauses::numbered_details;
 use redl_commands::{Output, Writing};
 use redl_excerpts::Detail;
 use redl_index::Index;
@@ -27,6 +26,7 @@ use redl_join::Verdict;
 use redl_lines::Failure;
 use redl_listing::{Listed, RowFormat, list_in, shows_details};
 use redl_opc::Package;
+use redl_remarks::remarked_details;
 use redl_session::Session;
 use redl_words::{ListCommand, Only};
 use std::alloc::{AllocError, Global};
@@ -196,13 +196,13 @@ fn details_of(
     session: &Session,
     shown: &[bool],
 ) -> Result<Vec<Detail>, AllocError>
-    ensures value { IfOk result (λ details. details.items ≡ if shows_details name.now then numbered_details session.now.nodes session.now.revisions shown.now session.now.book else []) }
+    ensures value { IfOk result (λ details. details.items ≡ if shows_details name.now then remarked_details session.now.nodes session.now.revisions shown.now session.now.book else []) }
     ensures utf8 { IfOk result (λ details. All IsDetail details.items) }
 {
     if !shows_details(name) {
         return Ok(Vec::new(alloc));
     }
-    let details = numbered_details(
+    let details = remarked_details(
         alloc,
         session.package(),
         session.index(),

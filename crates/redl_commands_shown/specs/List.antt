@@ -5,7 +5,7 @@ use Rattle.redl_commands_shown.specs.Shown.{shown_revisions}
 use Rattle.redl_commands_shown.specs.Formats.{Format, format_named}
 use Rattle.redl_inputs.specs.Readers.{Reader}
 use Rattle.redl_inputs.specs.Steps.{◌>>=◌}
-use Rattle.redl_clauses.specs.Clauses.{numbered_details}
+use Rattle.redl_remarks.specs.Remarked.{remarked_details}
 use Rattle.redl_commands.specs.Writing.{Writing}
 use Rattle.redl_excerpts.specs.declared.detail.Detail.{Detail}
 use Rattle.redl_io.specs.Shelf.{Files}
@@ -36,7 +36,7 @@ session_shown wanted state = shown_revisions wanted state.revisions (session_ver
 -- the details of those that are shown, where the format shows details
 unfoldable pub session_details : List ℕ → List Only → SessionState → List Detail
 session_details name wanted state =
-    if shows_details name then numbered_details state.nodes state.revisions (session_shown wanted state) state.book else []
+    if shows_details name then remarked_details state.nodes state.revisions (session_shown wanted state) state.book else []
 
 -- a row for each revision of a session's package that is shown, with the verdict of the session's book, for the format with this name
 abbrev pub session_rows : List ℕ → List Only → SessionState → List Row
