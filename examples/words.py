@@ -9,6 +9,7 @@ import re
 import sys
 
 import clauses
+import comments
 import formats
 import places
 import reading
@@ -119,6 +120,7 @@ def says_of(number, entries):
 def listed(package, entries, shown=None):
     """The listing of a package in the format `words`, of all revisions or of those alone that have these numbers."""
     entries = reading.admitted(package, entries)
+    on, _ = comments.comments_on(package)
     out = []
     for number, revision in enumerate(package.revisions, 1):
         if shown is not None and number not in shown:
@@ -134,6 +136,8 @@ def listed(package, entries, shown=None):
         quoted = "" if clause is None else masked(clause) + " "
         quoted += masked(near_end(before)) + begin + inside + masked(texts.shortened(after, 10))
         line = "%5d %-12s %-8s %-13s %s" % (number, revision.kind, verdict, texts.shortened(masked(revision.author), 12), quoted)
+        count = on[number - 1][1]
+        line += "" if count == 0 else "  (1 comment)" if count == 1 else "  (%d comments)" % count
         place = places.place_of(package, number)
         line += "" if place == "document" else "  " + place
         said = "".join("  %s: %s" % (masked(entry.reviewer), entry.word) for entry in says_of(number, entries))
@@ -145,6 +149,7 @@ def full(package, entries):
     """The listing of a package in the format `full`: each row of `json`, and what was told of its revision."""
     rows = json.loads(reading.listed(package, entries, "json"))
     entries = reading.admitted(package, entries)
+    on, _ = comments.comments_on(package)
     for row in rows:
         row["words"], row["before"], row["after"] = excerpt(package, row["number"])
         members = members_of(package, row["number"])
@@ -152,6 +157,9 @@ def full(package, entries):
         row["changed"] = (found or [])[: formats.MOST]
         row["changed_more"] = None if found is None else max(0, len(found) - formats.MOST)
         row["clause"] = clauses.clause_of(package, row["number"])
+        kept, count = on[row["number"] - 1]
+        row["comments"] = [comments.row_of(it) for it in kept]
+        row["comments_more"] = count - len(kept)
         row["place"] = places.place_of(package, row["number"])
         row["id"] = members[0].attribute("id") if members else None
         row["says"] = [{"reviewer": entry.reviewer, "word": entry.word} for entry in says_of(row["number"], entries)]
