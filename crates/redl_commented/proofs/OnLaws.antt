@@ -4,7 +4,7 @@ use Rattle.std.proofs.lemmas.Bool.{ltb-true, ltb-false, lt-ltb, le-ltb}
 use Rattle.std.proofs.lemmas.List.{length-take-le}
 use Rattle.std.specs.Option.{option_map}
 use Rattle.redl_spans.specs.declared.span.Span.{Span}
-use Rattle.redl_commented.specs.On.{Remarks, all_remarked, begins_before, end_of, ends_after, is_of, joined, meets, no_remarks, number_on, on_member, ranked, ranked_after, ranked_in, start_of}
+use Rattle.redl_commented.specs.On.{Remarks, all_remarked, begins_before, end_of, ends_after, is_of, joined, meets, no_remarks, number_on, on_member, ranked, ranked_after, ranked_in, remarked, start_of}
 use Rattle.redl_commented.specs.declared.range.Ranged.{Ranged}
 use Rattle.redl_commented.specs.Inside.Fronts.{BeginBy, BeginBefore}
 use Rattle.redl_commented.specs.Orders.{Above}
@@ -230,6 +230,16 @@ pub nothing-kept : (n k : ℕ) → k < n → slice_get (replicate n no_remarks) 
 nothing-kept zero k h = absurd (omega (arith, h))
 nothing-kept (suc n) zero h = refl
 nothing-kept (suc n) (suc k) h = nothing-kept n k (omega (arith, h))
+
+abbrev with_most : List ℕ → ℕ → Remarks
+with_most kept most = record { kept = kept; most = most }
+
+-- where there are no comments, none is on any member
+pub nothing-remarked : (remarks : Remarks) (spans : List Span) → all_remarked [] remarks spans ≡ remarks
+nothing-remarked remarks [] = refl
+nothing-remarked remarks (span ∷ more) =
+    nothing-remarked (remarked [] remarks span) more
+    ∙ ap (with_most remarks.kept) (omega arith)
 
 -- ---- how many there are
 

@@ -48,7 +48,8 @@ fn by_start(all: Vec<Ranged>) -> Result<Vec<Ranged>, AllocError>
     Ok(sorted)
 }
 
-fn nothing_on(alloc: Global, revisions: usize) -> Result<Vec<Remarks>, AllocError>
+/// None on each of so many revisions.
+pub(crate) fn nothing_on(alloc: Global, revisions: usize) -> Result<Vec<Remarks>, AllocError>
     ensures { IfOk result (λ on. on.items ≡ replicate revisions no_remarks) }
 {
     let mut on = Vec::with_capacity(alloc, revisions)?;
