@@ -14,6 +14,7 @@
     python3 make.py deep NAME FILE               a sound document whose elements stand 512 deep, as deep as they may
     python3 make.py grown BYTES FILE             a document of some 80 MB of which `settle accept` makes so many bytes, 128 MiB or more
     python3 make.py text NAME FILE               a text that is deep, wide or long, and no package
+    python3 make.py comments NAME FILE           a document with 100,000 comments
 """
 import hashlib
 import sys
@@ -219,6 +220,54 @@ SHAPES = {
 }
 
 
+# Comments: what a document has of them, and what is said of their state.
+COMMENTS = 100000
+NUMBERS = range(COMMENTS)
+PLACE = '<w:comment%s w:id="%d"/>'
+ADDED = '<w:ins w:id="1" w:author="Ann Gray"><w:r><w:t>added</w:t></w:r></w:ins>'
+RELATIONSHIPS = (
+    '<pkg:part pkg:name="/word/_rels/document.xml.rels" pkg:contentType="application/vnd.openxmlformats-package.relationships+xml"><pkg:xmlData>'
+    '<Relationships xmlns="http://schemas.openxmlformats.org/package/2006/relationships">'
+    '<Relationship Id="a" Type="x/comments" Target="comments.xml"/><Relationship Id="b" Type="x/commentsExtended" Target="states.xml"/>'
+    "</Relationships></pkg:xmlData></pkg:part>"
+)
+PART = '<pkg:part pkg:name="/word/%s.xml" pkg:contentType="text/xml"><pkg:xmlData>%s</pkg:xmlData></pkg:part>'
+COMMENT = '<w:comment w:id="%d" w:author="Bob Hay"><w:p w:paraId="%X"><w:r><w:t>why</w:t></w:r></w:p></w:comment>'
+STATE = '<s:commentEx s:paraId="%X" s:paraIdParent="%X" s:done="0"/>'
+
+
+def places(name, numbers):
+    return "".join(PLACE % (name, i) for i in numbers)
+
+
+def answers(to):
+    """What is said of the state of each comment: it answers the one that `to` gives for it."""
+    return "".join(STATE % (i + 1, to(i) % COMMENTS + 1) for i in NUMBERS)
+
+
+COMMENTED = {
+    # all on one change
+    "crowded": lambda: (places("RangeStart", NUMBERS) + ADDED + places("RangeEnd", NUMBERS), ""),
+    # each range crosses the next ones, and as many changes are in them
+    "crossing": lambda: ("".join(places("RangeStart", [i]) + ADDED + places("RangeEnd", [i - 50]) for i in NUMBERS), ""),
+    # ranges that end before they begin, and ranges without a start, each at a change
+    "turned": lambda: ("".join(places("RangeEnd", [i, i + 1]) + ADDED + places("RangeStart", [i]) for i in NUMBERS[::2]), ""),
+    # each answers the one before it, and only the first one has a place
+    "answers": lambda: (places("RangeStart", [0]) + ADDED + places("RangeEnd", [0]), answers(lambda i: max(0, i - 1))),
+    # each answers the next one, and the last one the first; none has a place
+    "ring": lambda: (ADDED, answers(lambda i: i + 1)),
+}
+
+
+def commented(name):
+    inside, states = COMMENTED[name]()
+    space = FRONT[FRONT.index(" xmlns:w=") : FRONT.index("><w:body>")]
+    said = "<w:comments%s>%s</w:comments>" % (space, "".join(COMMENT % (i, i + 1) for i in NUMBERS))
+    stated = '<s:commentsEx xmlns:s="http://schemas.microsoft.com/office/word/2012/wordml">%s</s:commentsEx>' % states
+    more = RELATIONSHIPS + PART % ("comments", said) + PART % ("states", stated)
+    return FRONT + "<w:p>%s</w:p>" % inside + BACK.replace("</pkg:package>", more + "</pkg:package>")
+
+
 DELETED_MARK = '<w:p><w:pPr><w:rPr><w:del w:id="1"/></w:rPr></w:pPr></w:p>'
 BODY = 5  # so deep in the elements of its package the body of a document stands
 DEEPEST = 512
@@ -322,6 +371,7 @@ def main(form, value, *rest):
         "deep": lambda: FRONT + DEEP[value]() + BACK,
         "grown": lambda: grown(int(value)),
         "text": lambda: TEXTS[value](),
+        "comments": lambda: commented(value),
     }[form]()
     save(rest[1] if form == "script" else rest[0], made)
 
