@@ -170,6 +170,8 @@ class Page:
             return "<!--list-->" + (sign if is_note else ""), "<!--/list-->"
         if element.is_w("br", "cr"):
             return "<br>" + ENDS.get(element.written_value("type"), ""), ""
+        if element.is_w("drawing", "pict", "object"):
+            return '<span class="picture">picture%s</span>' % described(element), ""
         if element.local == "sym":
             return symbol(element.written_value("char") or ""), ""
         return FIXED.get(element.local, ("", ""))
@@ -238,6 +240,14 @@ def symbol(digits):
     return '<span class="symbol">%s</span>' % (escaped(chr(number)) if agreed else "&#9633;")
 
 
+def described(picture):
+    """What a picture is said to show, behind a colon."""
+    elements = lambda nodes: [it for it in nodes if isinstance(it, reading.Element) and it.space == "other"]
+    values = [it.written_value("descr") for around in elements(picture.kids) for it in elements(around.kids) if it.local == "docPr"]
+    value = next((it for it in values if it is not None), "")
+    return ": " + escaped(shown(value)) if value else ""
+
+
 def structure(element):
     """What stands before and behind what a structure of an equation holds: signs that are given, or the usual ones."""
     start, end = STRUCTURES.get(element.local, ("", ""))
@@ -290,9 +300,6 @@ FIXED = {
     "tab": ("\t", ""),
     "noBreakHyphen": ("&#8209;", ""),
     "softHyphen": ("&#173;", ""),
-    "drawing": ('<span class="picture">picture</span>', ""),
-    "pict": ('<span class="picture">picture</span>', ""),
-    "object": ('<span class="picture">picture</span>', ""),
 }
 
 WHOLE = """<!DOCTYPE html>

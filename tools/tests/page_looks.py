@@ -262,16 +262,18 @@ LETTERS = "<m:r><m:t>%s</m:t></m:r>"
 HALF = "<m:f><m:num>%s</m:num><m:den>%s</m:den></m:f>" % (LETTERS % "a &lt; b", LETTERS % "2")
 BARS = '<m:d><m:dPr><m:begChr m:val="|"/><m:endChr m:val="|"/></m:dPr><m:e>%s</m:e></m:d>' % (LETTERS % "x")
 SUM = '<m:nary><m:naryPr><m:chr m:val="\u2211"/></m:naryPr><m:sub>%s</m:sub><m:sup/><m:e>%s</m:e></m:nary>' % (LETTERS % "i", LETTERS % "i")
+DRAWING = '<w:r><w:drawing><d:inline xmlns:d="x"><d:docPr descr="%s"/></d:inline></w:drawing></w:r>'
 HIDDEN = '<w:r><w:rPr><w:i/><w:vanish/></w:rPr><w:t>%s</w:t></w:r>'
 LABEL = "return [...document.querySelectorAll(arguments[0])].map((it) => [it.textContent, getComputedStyle(it, '::before').content])"
 
 
 def plain_and_hidden(driven):
-    """Hidden text, ends of pages, soft hyphens and equations; and the document comes before its headers."""
+    """Hidden text, ends of pages, soft hyphens, equations and words for pictures; and the document comes before its headers."""
     body = (
         "<w:p>%s%s<w:r><w:rPr><w:vanish w:val=\"0\"/></w:rPr><w:t>seen</w:t></w:r></w:p>" % (HIDDEN % "not ", HIDDEN % "this"),
         '<w:p><w:r><w:br w:type="page"/><w:t>co</w:t><w:softHyphen/><w:t>op</w:t><w:br w:type="column"/><w:br/></w:r></w:p>',
         "<w:p><m:oMath %s>%s</m:oMath></w:p>" % (MATH, HALF + SUM + BARS),
+        "<w:p>%s%s</w:p>" % (DRAWING % "A &lt;b&gt; sign", DRAWING % ""),
         '<w:p><w:ins w:id="1" w:author="Ann" w:date="2026-11-03T14:30:00Z">%s</w:ins></w:p><w:p/>' % (HIDDEN % "new"),
     )
     header = ("/word/header1.xml", "hdr", "<w:p><w:r><w:t>above</w:t></w:r></w:p>")
@@ -287,6 +289,7 @@ def plain_and_hidden(driven):
     same("pages and columns end", seen.run(LABEL, ".page-end, .column-end"), [["", '"page break"'], ["", '"column break"']])
     told("a soft hyphen is one", "co\u00adop" in seen.run("return document.querySelector('main').textContent"))
     same("an equation is its linear text", seen.run(LABEL, ".equation"), [["(a < b)/(2)\u2211_(i)^()(i)|(x)|", "none"]])
+    same("a picture says what it shows", seen.run(LABEL, ".picture"), [["picture: A <b> sign", "none"], ["picture", "none"]])
     stories = "return [...document.querySelectorAll('main > section')].map((it) => [it.dataset.story, it.querySelector('h2')?.textContent || ''])"
     same("the document comes first", seen.run(stories), [["document", ""], ["hdr", "Header"]])
 

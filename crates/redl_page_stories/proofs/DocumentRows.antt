@@ -1,8 +1,8 @@
 -- Worked rows: what is written of nodes.
 use Prim.Native.String.{String}
 use Rattle.std.proofs.Common.{◌≡◌, ℕ, List, [], ◌∷◌, None, codes, refl}
-use Rattle.redl_tree.specs.Model.Nodes.{Nodes, no_nodes, Empty, ◌⊕◌}
-use Rattle.redl_tree.specs.declared.kinds.Space.TheVariants.{M}
+use Rattle.redl_tree.specs.Model.Nodes.{Nodes, no_nodes, Empty, End, ◌⊕◌}
+use Rattle.redl_tree.specs.declared.kinds.Space.TheVariants.{M, Other}
 use Rattle.redl_tree.specs.declared.kinds.Trace.TheVariants.{Ins, Del, From}
 use Rattle.redl_tree.specs.declared.kinds.Prop.TheVariants as props
 use Rattle.redl_tree.specs.declared.kinds.Kind.TheVariants.{Mark, Row, Cell, Change, Marker}
@@ -139,3 +139,15 @@ usual = m "nary" (m "e" (letters "f")) ⊕ m "acc" (m "e" (letters "v")) ⊕ m "
 usual_signs : written usual ≡ codes "&#8747;(f)&#9676;&#770;(v)(x)"
 unfolding usual attributes_of attribute_in attribute_at name_at word_at char_at name_end name_step may_start may_follow is_name_start is_name_character is_space equated_at quoted_at field_at quote_at is_value
 usual_signs = refl
+
+-- a picture with what it shows, and one of which nothing is said
+abbrev pictured : String → Nodes
+pictured tail = opened "drawing" (one (tag_in Other "wp" "inline" "" (End [])) (one (tag_in Other "wp" "docPr" tail Empty) no_nodes))
+
+pictures : Nodes
+pictures = pictured " id=\"1\" descr=\"A &amp; B sign\"" ⊕ pictured " descr=\"\""
+
+described : written pictures
+    ≡ codes "<span class=\"picture\">picture: A &amp; B sign</span><!--other--><!--other--><!--/other--><!--/other--><span class=\"picture\">picture</span><!--other--><!--other--><!--/other--><!--/other-->"
+unfolding pictures attributes_of attribute_in attribute_at name_at word_at char_at name_end name_step may_start may_follow is_name_start is_name_character is_space equated_at quoted_at field_at quote_at is_value reference_at named_at encode
+described = refl

@@ -1,5 +1,5 @@
 -- What the page shows of idle nodes is what they show by themselves.
-use Rattle.std.proofs.Common.{◌≡◌, ◌∙◌, refl, sym, ap, ℕ, List, [], ◌∷◌, ◌++◌, Bool, true, false, ◌&&◌, ◌||◌, not, codes, bytes_eq, if◌then◌else◌}
+use Rattle.std.proofs.Common.{◌≡◌, ◌∙◌, refl, sym, ap, ℕ, List, [], ◌∷◌, ◌++◌, Bool, true, false, ◌&&◌, ◌||◌, not, None, codes, bytes_eq, if◌then◌else◌}
 use Rattle.std.specs.Prelude.{is_some}
 use Rattle.std.proofs.Math.Bool.{or-false}
 use Rattle.redl_tree.specs.Model.Nodes.{Tag, Nodes, no_nodes, bytes, element}
@@ -17,12 +17,13 @@ use Rattle.redl_page_stories.specs.declared.idle.Within.{Within}
 use Rattle.redl_page_stories.specs.declared.marks.Depth.TheVariants.{Kids}
 use Rattle.redl_page_stories.specs.declared.place.PageSummary.{PageSummary}
 use Rattle.redl_page_stories.specs.declared.shape.Shape.{Shape}
+use Rattle.redl_page_stories.specs.declared.values.Property.TheVariants.{Description}
 use Rattle.redl_page_stories.specs.declared.shape.Shape.TheVariants as shape
 use Rattle.redl_page_stories.specs.Document.{bytes_pieces, element_pieces, end_as, inside, marks_in, nodes_pieces, start_as}
 use Rattle.redl_page_stories.specs.Inside.Idle.{behind_idle, idle_within, idle_named, idle_place, idle_shape, idle_start, idle_text, page_rule}
 use Rattle.redl_html.specs.Pieces.{HtmlPiece, own, pieces_text}
-use Rattle.redl_page_stories.specs.Shapes.{before_closing, behind_opening, closing, has_property, hidden_shape, holds_blocks, holds_list, inline_named, inline_shape, is_foreign, is_note, is_other, is_other_form, is_paragraph, is_reference, math_shape, opening, run_shape, set_shape, shape_named, shape_of}
-use Rattle.redl_page_stories.proofs.PastLaws.{math_none, no_math, no_other, other_none}
+use Rattle.redl_page_stories.specs.Shapes.{before_closing, behind_opening, closing, description_pieces, has_property, hidden_shape, holds_blocks, holds_list, inline_named, inline_shape, is_foreign, is_note, is_other, is_other_form, is_paragraph, is_reference, math_shape, opening, run_shape, set_shape, shape_named, shape_of, value_of}
+use Rattle.redl_page_stories.proofs.PastLaws.{idle_none, math_none, no_math, no_other, other_none}
 use Rattle.redl_html.proofs.PieceLaws.{pieces_text-append}
 use Rattle.redl_page_stories.proofs.NodeLaws.{element_text-by, shape_end-text}
 
@@ -139,24 +140,25 @@ no_paragraph shape.Paragraph h = absurd cc
 no_paragraph shape.Division h = absurd cc
 no_paragraph _ h = refl
 
-behind_same : (s : Shape) (tag : Tag) (kids : Nodes) → tells_kids s ≡ false → behind_opening s tag kids ≡ behind_idle s tag.tail
-behind_same shape.Paragraph tag kids h = absurd cc
-behind_same shape.Division tag kids h = absurd cc
-behind_same shape.Cell tag kids h = absurd cc
-behind_same shape.Operator tag kids h = absurd cc
-behind_same shape.Accent tag kids h = absurd cc
-behind_same shape.Delimiters tag kids h = absurd cc
-behind_same _ tag kids h = refl
+behind_same : (s : Shape) (tag : Tag) (kids : Nodes) → tells_kids s ≡ false → value_of Description kids ≡ None → behind_opening s tag kids ≡ behind_idle s tag.tail
+behind_same shape.Paragraph tag kids h d = absurd cc
+behind_same shape.Division tag kids h d = absurd cc
+behind_same shape.Cell tag kids h d = absurd cc
+behind_same shape.Operator tag kids h d = absurd cc
+behind_same shape.Accent tag kids h d = absurd cc
+behind_same shape.Delimiters tag kids h d = absurd cc
+behind_same shape.Picture tag kids h d = ap description_pieces d
+behind_same _ tag kids h d = refl
 
 ending_none : (s : Shape) (kids : Nodes) → tells_kids s ≡ false → before_closing s kids ≡ []
 ending_none shape.Delimiters kids h = absurd cc
 ending_none _ kids h = refl
 
 -- what comes before its kids, and after them
-start_same : (revisions : List Revision) (s : Shape) (in_run : Bool) (tag : Tag) (kids : Nodes) → Idle in_run tag → tells_kids s ≡ false →
+start_same : (revisions : List Revision) (s : Shape) (in_run : Bool) (tag : Tag) (kids : Nodes) → Idle in_run tag → tells_kids s ≡ false → value_of Description kids ≡ None →
     start_as revisions s tag kids tag.kind ≡ idle_start s tag.tail
-start_same revisions s in_run tag kids i h =
-    ap (start_as revisions s tag kids) i.kind ∙ ap (λ l. own (opening s) ∷ l) (behind_same s tag kids h)
+start_same revisions s in_run tag kids i h d =
+    ap (start_as revisions s tag kids) i.kind ∙ ap (λ l. own (opening s) ∷ l) (behind_same s tag kids h d)
 
 end_same : (revisions : List Revision) (s : Shape) (in_run : Bool) (tag : Tag) (kids : Nodes) → Idle in_run tag → tells_kids s ≡ false →
     pieces_text (end_as revisions s kids tag.kind) ≡ codes (closing s)
@@ -193,7 +195,7 @@ page_of revisions around in_run (element tag kids rest) h =
     pieces_text-append (element_pieces revisions around.place tag kids held) later
     ∙ ap (λ l. l ++ pieces_text later)
     (element_text-by revisions around.place tag kids held s (sym (shape_same around.place.loud in_run tag kids p.own))
-    ∙ ap (λ l. pieces_text l ++ (pieces_text held ++ pieces_text (end_as revisions s kids tag.kind))) (start_same revisions s in_run tag kids p.own none)
+    ∙ ap (λ l. pieces_text l ++ (pieces_text held ++ pieces_text (end_as revisions s kids tag.kind))) (start_same revisions s in_run tag kids p.own none (idle_none Description (is "r" tag) kids p.below))
     ∙ ap (λ l. pieces_text (idle_start s tag.tail) ++ (l ++ pieces_text (end_as revisions s kids tag.kind))) inner
     ∙ ap (λ l. pieces_text (idle_start s tag.tail) ++ (shows page_rule within kids ++ l)) (end_same revisions s in_run tag kids p.own none))
     ∙ ap (λ l. element_shows page_rule around tag.local tag.tail kids ++ l) (page_of revisions around in_run rest p.later)

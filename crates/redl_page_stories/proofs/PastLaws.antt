@@ -17,7 +17,7 @@ use Rattle.redl_page_stories.specs.declared.marks.Depth.{Depth}
 use Rattle.redl_page_stories.specs.declared.marks.Depth.TheVariants.{Kids, Properties, RunProperties}
 use Rattle.redl_page_stories.specs.declared.place.PageSummary.{PageSummary}
 use Rattle.redl_page_stories.specs.declared.values.Property.{Property}
-use Rattle.redl_page_stories.specs.declared.values.Property.TheVariants.{Style, Direction, Span, Merge, OperatorSign, AccentSign, FirstDelimiter, LastDelimiter}
+use Rattle.redl_page_stories.specs.declared.values.Property.TheVariants.{Style, Direction, Span, Merge, OperatorSign, AccentSign, FirstDelimiter, LastDelimiter, Description}
 use Rattle.redl_page_stories.specs.Document.{bytes_pieces, element_pieces, inside, marks_in, nodes_pieces}
 use Rattle.redl_page_stories.specs.Shapes.{given_by, has_property, holds, holds_blocks, is_block, is_other, is_other_form, switched_on, switches, value_in, value_of}
 use Rattle.redl_page_stories.specs.Signs.{member}
@@ -62,6 +62,12 @@ has_property_past name (element tag kids rest) y h =
     ap (λ b. (b && switched_on name kids) || has_property name (rest ⊕ y)) (has-not "rPr" false tag p.own refl)
     ∙ has_property_past name rest y p.later
 
+pub no_other : (s : Space) → is_w s ≡ true → is_other s ≡ false
+no_other W h = refl
+no_other M h = absurd cc
+no_other Pkg h = refl
+no_other Other h = absurd cc
+
 pub no_math : (s : Space) → is_w s ≡ true → is_m s ≡ false
 no_math W h = refl
 no_math M h = absurd cc
@@ -80,6 +86,7 @@ holds_none OperatorSign in_run tag i = math_none "naryPr" in_run tag i
 holds_none AccentSign in_run tag i = math_none "accPr" in_run tag i
 holds_none FirstDelimiter in_run tag i = math_none "dPr" in_run tag i
 holds_none LastDelimiter in_run tag i = math_none "dPr" in_run tag i
+holds_none Description in_run tag i = no_other tag.space i.space
 
 pub value_of_past : (property : Property) (x y : Nodes) → is_idle_in false x ≡ true → value_of property (x ⊕ y) ≡ value_of property y
 value_of_past property no_nodes y h = refl
@@ -88,6 +95,15 @@ value_of_past property (element tag kids rest) y h =
     let p = idle_parts false tag kids rest h in
     ap (λ b. option_or (if b then value_in property kids else None) (value_of property (rest ⊕ y))) (holds_none property false tag p.own)
     ∙ value_of_past property rest y p.later
+
+-- and so they give no value
+pub idle_none : (property : Property) (in_run : Bool) (x : Nodes) → is_idle_in in_run x ≡ true → value_of property x ≡ None
+idle_none property in_run no_nodes h = refl
+idle_none property in_run (bytes b rest) h = idle_none property in_run rest h
+idle_none property in_run (element tag kids rest) h =
+    let p = idle_parts in_run tag kids rest h in
+    ap (λ b. option_or (if b then value_in property kids else None) (value_of property rest)) (holds_none property in_run tag p.own)
+    ∙ idle_none property in_run rest p.later
 
 pub marks_past : (revisions : List Revision) (depth : Depth) (x y : Nodes) → is_idle_in false x ≡ true → marks_in revisions depth (x ⊕ y) ≡ marks_in revisions depth y
 marks_past revisions depth no_nodes y h = refl
@@ -104,12 +120,6 @@ marks_past revisions RunProperties (element tag kids rest) y h =
     let p = idle_parts false tag kids rest h in
     ap (λ (k : Kind). (if is_mark k then member revisions k tag.rev else []) ++ marks_in revisions RunProperties (rest ⊕ y)) p.own.kind
     ∙ marks_past revisions RunProperties rest y p.later
-
-pub no_other : (s : Space) → is_w s ≡ true → is_other s ≡ false
-no_other W h = refl
-no_other M h = absurd cc
-no_other Pkg h = refl
-no_other Other h = absurd cc
 
 pub other_none : (in_run : Bool) (tag : Tag) → Idle in_run tag → is_other_form tag ≡ false
 other_none in_run tag i = ap (λ o. o && bytes_eq tag.local (codes "Fallback")) (no_other tag.space i.space)

@@ -2,7 +2,7 @@
 -- by their names, where no ancestor holds properties. Of properties, hidden, bold and italic runs are shown, the style and the direction
 -- of a paragraph, and which cells are merged.
 use Prim.Native.String.{String}
-use Rattle.std.specs.Prelude.{ℕ, Bool, true, false, ◌&&◌, ◌||◌, not, List, [], ◌∷◌, ◌++◌, Option, Some, None, unwrap_or, bytes_eq, codes, encode_utf8, is_some, nat_le, nat_lt, if◌then◌else◌}
+use Rattle.std.specs.Prelude.{ℕ, ◌==◌, Bool, true, false, ◌&&◌, ◌||◌, not, List, [], ◌∷◌, ◌++◌, Option, Some, None, unwrap_or, bytes_eq, codes, encode_utf8, is_some, length, nat_le, nat_lt, if◌then◌else◌}
 use Rattle.std.specs.Option.{option_or}
 use Rattle.redl_tree.specs.Model.Nodes.{Tag, Nodes, no_nodes, bytes, element}
 use Rattle.redl_tree.specs.Roles.Names.{is, is_m, is_math, is_w, named}
@@ -14,7 +14,7 @@ use Rattle.redl_html.specs.Escaping.{escaped}
 use Rattle.redl_html.specs.Pieces.{HtmlPiece, own, outside}
 use Rattle.redl_grammar.specs.References.{reference_at}
 use Rattle.redl_page_stories.specs.declared.values.Property.{Property}
-use Rattle.redl_page_stories.specs.declared.values.Property.TheVariants.{Style, Direction, Span, Merge, OperatorSign, AccentSign, FirstDelimiter, LastDelimiter}
+use Rattle.redl_page_stories.specs.declared.values.Property.TheVariants.{Style, Direction, Span, Merge, OperatorSign, AccentSign, FirstDelimiter, LastDelimiter, Description}
 use Rattle.redl_page_stories.specs.declared.shape.Shape.{Shape}
 use Rattle.redl_page_stories.specs.declared.shape.Shape.TheVariants.{Nothing, Paragraph, Division, Table, Row, Cell, TextBox, Bold, Italic, BoldItalic, Hidden, HiddenBold, HiddenItalic, HiddenBoldItalic, Tab, Break, Hyphen, SoftHyphen, Symbol, Picture, Reference, Note, Blocks, Foreign, OtherForm, Equation, Argument, Divisor, Below, Above, Bracketed, Root, Operator, Accent, Delimiters}
 
@@ -175,7 +175,7 @@ opening Tab = "\t"
 opening Break = "<br>"
 opening Hyphen = "&#8209;"
 opening SoftHyphen = "&#173;"
-opening Picture = "<span class=\"picture\">picture</span>"
+opening Picture = "<span class=\"picture\">picture"
 opening Symbol = "<span class=\"symbol\">"
 opening Reference = "<sup>"
 opening Note = "<!--list--><sup>"
@@ -249,8 +249,9 @@ property_name OperatorSign = codes "chr"
 property_name AccentSign = codes "chr"
 property_name FirstDelimiter = codes "begChr"
 property_name LastDelimiter = codes "endChr"
+property_name Description = codes "docPr"
 
--- whether it is one of mathematics, or of W
+-- whether it is one of W, of mathematics, or of drawings
 abbrev pub is_in : Property → Space → Bool
 is_in Style space = is_w space
 is_in Direction space = is_w space
@@ -260,6 +261,7 @@ is_in OperatorSign space = is_m space
 is_in AccentSign space = is_m space
 is_in FirstDelimiter space = is_m space
 is_in LastDelimiter space = is_m space
+is_in Description space = is_other space
 
 -- what a property with this tail gives: its value as it is written; without one most give nothing
 abbrev pub given : Property → List ℕ → Option (List ℕ)
@@ -271,8 +273,9 @@ given OperatorSign tail = written_value tail (codes "val")
 given AccentSign tail = written_value tail (codes "val")
 given FirstDelimiter tail = written_value tail (codes "val")
 given LastDelimiter tail = written_value tail (codes "val")
+given Description tail = written_value tail (codes "descr")
 
--- what an element gives as this property (17.3.1.27, 17.3.1.6, 17.4.17, 17.4.84, 22.1.2.20, 22.1.2.10 and 22.1.2.33)
+-- what an element gives as this property (17.3.1.27, 17.3.1.6, 17.4.17, 17.4.84, 22.1.2.20, 22.1.2.10, 22.1.2.33 and 20.4.2.5)
 abbrev pub given_by : Property → Tag → Option (List ℕ)
 given_by property tag = if is_in property tag.space && bytes_eq tag.local (property_name property) then given property tag.tail else None
 
@@ -282,7 +285,7 @@ value_in property no_nodes = None
 value_in property (bytes b rest) = value_in property rest
 value_in property (element tag kids rest) = option_or (given_by property tag) (value_in property rest)
 
--- an element that holds properties of this sort: those of a paragraph, of a cell, or of a structure of an equation
+-- an element that holds properties of this sort: those of a paragraph, of a cell, of a structure of an equation, or of a drawing
 abbrev pub holds : Property → Tag → Bool
 holds Style tag = is "pPr" tag
 holds Direction tag = is "pPr" tag
@@ -292,6 +295,7 @@ holds OperatorSign tag = is_math "naryPr" tag
 holds AccentSign tag = is_math "accPr" tag
 holds FirstDelimiter tag = is_math "dPr" tag
 holds LastDelimiter tag = is_math "dPr" tag
+holds Description tag = is_other tag.space
 
 -- the value of a property of an element with these kids
 abbrev pub value_of : Property → Nodes → Option (List ℕ)
@@ -335,6 +339,17 @@ sign_piece usual (Some sign) = outside (shown sign)
 abbrev pub sign_text : List ℕ → Option (List ℕ) → List ℕ
 sign_text usual None = usual
 sign_text usual (Some sign) = escaped (shown sign)
+
+-- ---- pictures
+
+-- what the document says that a picture shows
+abbrev pub said_pieces : List ℕ → List HtmlPiece
+said_pieces text = own ": " ∷ outside (shown text) ∷ own "</span>" ∷ []
+
+-- the end of the word for a picture, after that
+abbrev pub description_pieces : Option (List ℕ) → List HtmlPiece
+description_pieces None = own "</span>" ∷ []
+description_pieces (Some text) = if length text == 0 then own "</span>" ∷ [] else said_pieces text
 
 -- ---- breaks
 
@@ -385,6 +400,7 @@ abbrev pub behind_opening : Shape → Tag → Nodes → List HtmlPiece
 behind_opening Paragraph tag kids = paragraph_pieces kids
 behind_opening Division tag kids = paragraph_pieces kids
 behind_opening Cell tag kids = cell_pieces kids
+behind_opening Picture tag kids = description_pieces (value_of Description kids)
 behind_opening Break tag kids = break_pieces (written_value tag.tail (codes "type"))
 behind_opening Symbol tag kids = symbol_pieces (written_value tag.tail (codes "char"))
 behind_opening Reference tag kids = note_pieces (written_value tag.tail (codes "id"))

@@ -8,7 +8,7 @@ ghost use Rattle.redl_html.specs.Pieces.{pieces_text};
 use crate::place::PageSummary;
 use crate::shape::Shape;
 use crate::shown::put_bytes;
-use crate::starts::{put_break, put_symbol};
+use crate::starts::{put_break, put_picture_end, put_symbol};
 use crate::values::{put_note, written_value};
 use redl_idle::{Shows, show};
 use redl_io::{Failed, Sink, put_piece};
@@ -85,6 +85,7 @@ fn put_behind_idle<K: Sink>(shape: Shape, tail: &[u8], out: &mut K) -> Result<()
     ensures { Puts K.told K.faults K.settled K.lenders out.old out.new (pieces_text (behind_idle shape tail.now)) result }
 {
     match shape {
+        Shape::Picture => put_picture_end(None, out),
         Shape::Break => put_break(written_value(tail, b"type"), out),
         Shape::Symbol => put_symbol(written_value(tail, b"char"), out),
         Shape::Reference => put_note(written_value(tail, b"id"), out),

@@ -6,8 +6,8 @@ ghost use Rattle.redl_tree.specs.Model.View.{nodes_of, item_of, tag_of, kids_of}
 ghost use Rattle.redl_shown.specs.Shown.{shown};
 ghost use Rattle.redl_page_stories.specs.Document.{element_pieces, end_as, inside, marks_in, nodes_pieces, shape_end, shape_start, start_as};
 ghost use Rattle.redl_html.specs.Pieces.{piece_text, pieces_text};
-ghost use Rattle.redl_page_stories.specs.Shapes.{before_closing, behind_opening, is_paragraph, sign_piece, value_of};
-ghost use Rattle.redl_page_stories.specs.declared.values.Property.TheVariants.{AccentSign, OperatorSign};
+ghost use Rattle.redl_page_stories.specs.Shapes.{before_closing, behind_opening, description_pieces, is_paragraph, sign_piece, value_of};
+ghost use Rattle.redl_page_stories.specs.declared.values.Property.TheVariants.{AccentSign, Description, OperatorSign};
 ghost use Rattle.redl_page_stories.specs.declared.marks.Depth.TheVariants.{Kids};
 ghost use Rattle.redl_page_stories.specs.Inside.Items.{item_pieces};
 
@@ -17,7 +17,9 @@ use crate::place::PageSummary;
 use crate::shape::Shape;
 use crate::shown::put_bytes;
 use crate::sign::{content_end, put_edge, put_member};
-use crate::starts::{put_break, put_cell_start, put_paragraph_start, put_sign, put_symbol};
+use crate::starts::{
+    put_break, put_cell_start, put_paragraph_start, put_picture_end, put_sign, put_symbol,
+};
 use crate::values::{Property, put_note, value_of, written_value};
 use redl_index::Index;
 use redl_io::{Failed, Sink, put_piece};
@@ -94,7 +96,7 @@ fn put_opening<K: Sink>(shape: Shape, elem: &Elem, out: &mut K) -> Result<(), Fa
     put_behind_opening(shape, elem, out)
 }
 
-// Puts what comes behind the opening of a paragraph, a cell, a break, a symbol, a note or a structure of an equation.
+// Puts what comes behind the opening of a paragraph, a cell, a picture, a break, a symbol, a note or a structure of an equation.
 fn put_behind_opening<K: Sink>(shape: Shape, elem: &Elem, out: &mut K) -> Result<(), Failed>
     ensures { Puts K.told K.faults K.settled K.lenders out.old out.new (pieces_text (behind_opening shape (tag_of elem.now) (kids_of elem.now))) result }
 {
@@ -102,6 +104,7 @@ fn put_behind_opening<K: Sink>(shape: Shape, elem: &Elem, out: &mut K) -> Result
         Shape::Paragraph => put_paragraph_start(elem.kids(), out),
         Shape::Division => put_paragraph_start(elem.kids(), out),
         Shape::Cell => put_cell_start(elem.kids(), out),
+        Shape::Picture => put_description(elem, out),
         Shape::Break => put_break(written_value(elem.tail(), b"type"), out),
         Shape::Symbol => put_symbol(written_value(elem.tail(), b"char"), out),
         Shape::Reference => put_note(written_value(elem.tail(), b"id"), out),
@@ -111,6 +114,13 @@ fn put_behind_opening<K: Sink>(shape: Shape, elem: &Elem, out: &mut K) -> Result
         Shape::Delimiters => put_delimiter(Property::FirstDelimiter, elem, out),
         _ => Ok(()),
     }
+}
+
+// Puts what a picture is said to show, and the end of its word.
+fn put_description<K: Sink>(elem: &Elem, out: &mut K) -> Result<(), Failed>
+    ensures { Puts K.told K.faults K.settled K.lenders out.old out.new (pieces_text (description_pieces (value_of Description (kids_of elem.now)))) result }
+{
+    put_picture_end(value_of(Property::Description, elem.kids()), out)
 }
 
 fn put_operator<K: Sink>(elem: &Elem, out: &mut K) -> Result<(), Failed>

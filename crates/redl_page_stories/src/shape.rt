@@ -321,7 +321,7 @@ impl Shape {
             Shape::Break => b"<br>",
             Shape::Hyphen => b"&#8209;",
             Shape::SoftHyphen => b"&#173;",
-            Shape::Picture => b"<span class=\"picture\">picture</span>",
+            Shape::Picture => b"<span class=\"picture\">picture",
             Shape::Symbol => b"<span class=\"symbol\">",
             Shape::Reference => b"<sup>",
             Shape::Note => b"<!--list--><sup>",

@@ -1,11 +1,11 @@
-//! What comes after the opening of a paragraph, of a cell, of a break, of a symbol and of a structure of an equation.
+//! What comes after the opening of a paragraph, of a cell, of a picture, of a break, of a symbol and of a structure of an equation.
 
 ghost use Rattle.std.specs.Prelude.{◌≡◌, Some, option_map};
 ghost use Rattle.redl_io.specs.Sink.{Puts};
 ghost use Rattle.redl_grammar.specs.References.{reference_at};
 ghost use Rattle.redl_tree.specs.Model.View.{nodes_of};
 ghost use Rattle.redl_html.specs.Pieces.{piece_text, pieces_text};
-ghost use Rattle.redl_page_stories.specs.Shapes.{break_pieces, cell_pieces, character_piece, direction_pieces, is_agreed, merge_pieces, numbered, paragraph_pieces, referenced, sign_text, span_pieces, symbol_piece, symbol_pieces};
+ghost use Rattle.redl_page_stories.specs.Shapes.{break_pieces, cell_pieces, character_piece, description_pieces, direction_pieces, is_agreed, merge_pieces, numbered, paragraph_pieces, referenced, said_pieces, sign_text, span_pieces, symbol_piece, symbol_pieces};
 
 use crate::emphasis::is_off;
 use crate::shown::put_shown;
@@ -91,6 +91,36 @@ fn put_given_merge<K: Sink>(value: &[u8], out: &mut K) -> Result<(), Failed>
         return Ok(());
     }
     put_piece(b" class=\"merged\"", out)
+}
+
+/// Puts what a picture is said to show, if anything is said, and the end of its word. It takes no memory.
+pub(crate) fn put_picture_end<K: Sink>(
+    description: Option<&[u8]>,
+    out: &mut K,
+) -> Result<(), Failed>
+    ensures { Puts K.told K.faults K.settled K.lenders out.old out.new (pieces_text (description_pieces (option_map (λ text. text.now) description.entry))) result }
+{
+    match description {
+        Some(text) => put_given_description(text, out),
+        None => put_piece(b"</span>", out),
+    }
+}
+
+fn put_given_description<K: Sink>(text: &[u8], out: &mut K) -> Result<(), Failed>
+    ensures { Puts K.told K.faults K.settled K.lenders out.old out.new (pieces_text (description_pieces (Some text.now))) result }
+{
+    if text.is_empty() {
+        return put_piece(b"</span>", out);
+    }
+    put_said(text, out)
+}
+
+fn put_said<K: Sink>(text: &[u8], out: &mut K) -> Result<(), Failed>
+    ensures { Puts K.told K.faults K.settled K.lenders out.old out.new (pieces_text (said_pieces text.now)) result }
+{
+    put_piece(b": ", out)?;
+    put_shown(text, out)?;
+    put_piece(b"</span>", out)
 }
 
 /// Puts what ends at a break of this sort besides a line. It takes no memory.

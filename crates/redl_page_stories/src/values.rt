@@ -60,6 +60,8 @@ pub(crate) enum Property {
     FirstDelimiter,
     /// The sign after them.
     LastDelimiter,
+    /// What a drawing is said to show.
+    Description,
 }
 
 impl Property {
@@ -75,6 +77,7 @@ impl Property {
             Property::AccentSign => b"chr",
             Property::FirstDelimiter => b"begChr",
             Property::LastDelimiter => b"endChr",
+            Property::Description => b"docPr",
         }
     }
 
@@ -91,6 +94,7 @@ impl Property {
             Property::AccentSign => written_value(tail, b"val"),
             Property::FirstDelimiter => written_value(tail, b"val"),
             Property::LastDelimiter => written_value(tail, b"val"),
+            Property::Description => written_value(tail, b"descr"),
         }
     }
 
@@ -104,6 +108,7 @@ impl Property {
             Property::OperatorSign => is_in_math(elem, b"naryPr"),
             Property::AccentSign => is_in_math(elem, b"accPr"),
             Property::FirstDelimiter | Property::LastDelimiter => is_in_math(elem, b"dPr"),
+            Property::Description => elem.space() == Space::Other,
         }
     }
 
@@ -126,6 +131,7 @@ impl Property {
             | Property::AccentSign
             | Property::FirstDelimiter
             | Property::LastDelimiter => space == Space::M,
+            Property::Description => space == Space::Other,
         }
     }
 }

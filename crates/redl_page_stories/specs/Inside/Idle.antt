@@ -1,5 +1,5 @@
 -- What idle elements show that a list keeps as text. They are in no revision, and none of them is a block.
-use Rattle.std.specs.Prelude.{ℕ, List, [], ◌∷◌, Bool, ◌&&◌, not, codes, if◌then◌else◌}
+use Rattle.std.specs.Prelude.{ℕ, List, [], ◌∷◌, Bool, ◌&&◌, not, None, codes, if◌then◌else◌}
 use Rattle.redl_tree.specs.Model.Nodes.{Nodes}
 use Rattle.redl_tree.specs.Roles.Names.{is, of_w}
 use Rattle.redl_idle.specs.Shows.{ShowRule, shows}
@@ -8,10 +8,10 @@ use Rattle.redl_stamp.specs.Attribute.{written_value}
 use Rattle.redl_page_stories.specs.declared.idle.Within.{Within}
 use Rattle.redl_page_stories.specs.declared.place.PageSummary.{PageSummary}
 use Rattle.redl_page_stories.specs.declared.shape.Shape.{Shape}
-use Rattle.redl_page_stories.specs.declared.shape.Shape.TheVariants.{Nothing, Break, Symbol, Reference, Note}
+use Rattle.redl_page_stories.specs.declared.shape.Shape.TheVariants.{Nothing, Break, Symbol, Picture, Reference, Note}
 use Rattle.redl_page_stories.specs.Document.{bytes_pieces}
 use Rattle.redl_html.specs.Pieces.{HtmlPiece, own, pieces_text}
-use Rattle.redl_page_stories.specs.Shapes.{break_pieces, closing, inline_shape, is_reference, note_pieces, opening, run_shape, symbol_pieces}
+use Rattle.redl_page_stories.specs.Shapes.{break_pieces, closing, description_pieces, inline_shape, is_reference, note_pieces, opening, run_shape, symbol_pieces}
 
 -- what an idle element with this local name and these kids is shown as, by its name
 abbrev pub idle_named : List ℕ → Nodes → Shape
@@ -23,8 +23,9 @@ idle_named local kids =
 abbrev pub idle_shape : Bool → List ℕ → Nodes → Shape
 idle_shape loud local kids = if loud then idle_named local kids else Nothing
 
--- what comes behind the opening, where the element has this tail
+-- what comes behind the opening, where the element has this tail; no drawing in it says what it shows
 abbrev pub behind_idle : Shape → List ℕ → List HtmlPiece
+behind_idle Picture tail = description_pieces None
 behind_idle Break tail = break_pieces (written_value tail (codes "type"))
 behind_idle Symbol tail = symbol_pieces (written_value tail (codes "char"))
 behind_idle Reference tail = note_pieces (written_value tail (codes "id"))
