@@ -1,7 +1,7 @@
-"""The package contract.xml: a contract of two pages with changes of four people, of every kind that there is.
+"""The package contract.xml: a contract of two pages with changes of four people, of every kind that there is, and with comments.
 
-The parts are those that a word processor writes: the document with its header, footer, footnotes, styles, settings and a
-picture. Names and goods are made up.
+The parts are those that a word processor writes: the document with its header, footer, footnotes, comments, numbering, styles,
+settings and a picture. Names and goods are made up.
 """
 import base64
 import struct
@@ -13,6 +13,11 @@ RELATIONSHIPS = "http://schemas.openxmlformats.org/package/2006/relationships"
 PACKAGE = "http://schemas.microsoft.com/office/2006/xmlPackage"
 TYPE = "application/vnd.openxmlformats-officedocument.wordprocessingml.%s+xml"
 DRAWING = "http://schemas.openxmlformats.org/drawingml/2006/"
+# Where later versions of a word processor keep the ids of paragraphs, and which comments are answers and which are done.
+LATER = "http://schemas.microsoft.com/office/word/2010/wordml"
+THREADS = "http://schemas.microsoft.com/office/word/2012/wordml"
+STATES = "http://schemas.microsoft.com/office/2011/relationships/commentsExtended"
+COMPATIBILITY = "http://schemas.openxmlformats.org/markup-compatibility/2006"
 
 ANN = 'w:author="Ann Gray" w:date="2026-11-02T09:00:00Z"'
 BOB = 'w:author="Bob Hay" w:date="2026-11-03T14:30:00Z"'
@@ -28,9 +33,9 @@ def part(name, content_type, inside, more=""):
 
 
 def relationships(*targets):
-    """The relationships rId1, rId2 and so on, each to a target with the last word of its type."""
-    each = '<Relationship Id="rId%d" Type="%s/%s" Target="%s"/>'
-    lines = [each % (number, OFFICE, kind, target) for number, (kind, target) in enumerate(targets, 1)]
+    """The relationships rId1, rId2 and so on, each to a target with its type, or the last word of that."""
+    each = '<Relationship Id="rId%d" Type="%s" Target="%s"/>'
+    lines = [each % (number, kind if ":" in kind else "%s/%s" % (OFFICE, kind), target) for number, (kind, target) in enumerate(targets, 1)]
     return '<Relationships xmlns="%s">%s</Relationships>' % (RELATIONSHIPS, "".join(lines))
 
 
@@ -54,8 +59,8 @@ def inserted(who, words):
     return change("ins", who, text(words))
 
 
-def deleted(who, words):
-    return change("del", who, '<w:r><w:delText xml:space="preserve">%s</w:delText></w:r>' % words)
+def deleted(who, words, behind=""):
+    return change("del", who, '<w:r><w:delText xml:space="preserve">%s</w:delText></w:r>%s' % (words, behind))
 
 
 def former(name, who, props, former_props):
@@ -72,8 +77,17 @@ def paragraph(content, props="", of_mark=""):
     return "<w:p>%s%s</w:p>\n" % (whole and "<w:pPr>%s</w:pPr>" % whole, content)
 
 
+# The styles whose paragraphs are counted, as 1. and 1.1, and what makes a paragraph an item, as (a).
+HEADING, CLAUSE = '<w:pStyle w:val="Heading1"/>', '<w:pStyle w:val="Clause"/>'
+ITEM = '<w:numPr><w:ilvl w:val="2"/><w:numId w:val="1"/></w:numPr>'
+
+
 def heading(words):
-    return paragraph(text(words), '<w:pStyle w:val="Heading1"/>')
+    return paragraph(text(words), HEADING)
+
+
+def clause(content, props="", of_mark=""):
+    return paragraph(content, CLAUSE + props, of_mark)
 
 
 def cell(content, props="", of_mark=""):
@@ -116,13 +130,53 @@ def moved(side, who, words):
 def moved_paragraph(side, who, name, words):
     """A paragraph that is moved with its mark: the range ends after it."""
     start, end = range_of(side, who, name)
-    return paragraph(start + moved(side, who, words), "", mark("move" + side, who)) + end + "\n"
+    return clause(start + moved(side, who, words), "", mark("move" + side, who)) + end + "\n"
 
 
 def moved_cell(side, who, name, words):
     """A cell whose text is moved with the mark of its paragraph."""
     start, end = range_of(side, who, name)
     return cell(start + moved(side, who, words) + end, "", mark("move" + side, who))
+
+
+# Comments
+
+# Who wrote a comment, when, what it says, which one it answers, and whether it is done. Their numbers are their places here.
+COMMENTS = [
+    (CARA.replace("08:15", "08:20"), "CL", "Does Gray Ltd agree to fourteen days?", None, False),
+    (ANN.replace("02T09:00", "05T10:30"), "AG", "Yes, from January on.", 0, False),
+    (ANN.replace("02T09:00", "05T10:20"), "AG", "Does anybody still pay cash?", None, True),
+    (DANA.replace("16:45", "17:05"), "DF", "Leeds or London?", None, False),
+]
+
+
+def referred(number):
+    return '<w:r><w:commentReference w:id="%d"/></w:r>' % number
+
+
+def opened(*numbers):
+    """The begin of what these comments are on."""
+    return "".join('<w:commentRangeStart w:id="%d"/>' % number for number in numbers)
+
+
+def closed(*numbers):
+    return "".join('<w:commentRangeEnd w:id="%d"/>%s' % (number, referred(number)) for number in numbers)
+
+
+def paragraph_id(number):
+    return "%08X" % (0x1A2B3C00 + number)
+
+
+def comments():
+    said = '<w:comment w:id="%d" %s w:initials="%s"><w:p w14:paraId="%s">%s%s</w:p></w:comment>\n'
+    style, sign = '<w:pPr><w:pStyle w:val="CommentText"/></w:pPr>', "<w:r><w:annotationRef/></w:r>"
+    return "".join(said % (at, who, initials, paragraph_id(at), style, sign + text(words)) for at, (who, initials, words, _, _) in enumerate(COMMENTS))
+
+
+def threads():
+    answers = lambda to: "" if to is None else ' w15:paraIdParent="%s"' % paragraph_id(to)
+    state = '<w15:commentEx w15:paraId="%s"%s w15:done="%d"/>'
+    return "".join(state % (paragraph_id(at), answers(to), is_done) for at, (_, _, _, to, is_done) in enumerate(COMMENTS))
 
 
 # The picture
@@ -164,7 +218,7 @@ def body():
         [
             paragraph(SHOWN),
             paragraph(
-                "<w:r><w:rPr>%s</w:rPr><w:t>Supply agreement</w:t></w:r>" % former("rPr", CARA, "<w:b/>", "<w:b/><w:caps/>"),
+                text("Supply agreement ", "<w:b/>") + text("(subject to contract)", former("rPr", CARA, "<w:b/><w:vanish/>", "<w:b/>")),
                 '<w:pStyle w:val="Title"/>',
             ),
             paragraph(
@@ -174,13 +228,13 @@ def body():
                 + text(", Leeds (the Seller).")
             ),
             paragraph(
-                text("1. Goods and prices"),
-                former("pPr", ANN, '<w:pStyle w:val="Heading1"/>{mark}', '<w:pStyle w:val="Heading2"/>'),
+                text("Goods and prices"),
+                former("pPr", ANN, HEADING + "{mark}", '<w:pStyle w:val="Heading2"/>'),
                 "<w:b/>",
             ),
-            paragraph(
+            clause(
                 text("The Seller sells and the Buyer buys the goods of this list. The prices hold for orders until 30 June 2027. ")
-                + change("ins", CARA, text("They are net prices") + deleted(BOB, " for cash") + text(", without value added tax."))
+                + change("ins", CARA, text("They are net prices") + opened(2) + deleted(BOB, " for cash", closed(2)) + text(", without value added tax."))
             ),
             table(
                 row(
@@ -205,18 +259,20 @@ def body():
                 props=former("tblPr", CARA, WIDE + '<w:jc w:val="center"/>', WIDE),
             ),
             paragraph(text("")),
-            heading("2. Delivery"),
-            paragraph(text("The Seller delivers the goods "), '<w:jc w:val="both"/>', mark("del", BOB)),
-            paragraph(text("to the store of the Buyer within ten days of the order."), '<w:jc w:val="left"/>'),
-            paragraph(text("Risk passes to the Buyer on delivery. "), "<w:keepNext/>", mark("ins", ANN)),
-            paragraph(text("The Buyer looks at the goods at once, and tells the Seller of any fault within seven days. A fault that could not be seen is told within seven days after it was found.")),
+            heading("Delivery"),
+            clause(text("The Seller delivers the goods "), '<w:jc w:val="both"/>', mark("del", BOB)),
+            clause(text("to the store of the Buyer within ten days of the order."), '<w:jc w:val="left"/>'),
+            clause(text("Risk passes to the Buyer on delivery. "), "<w:keepNext/>", mark("ins", ANN)),
+            clause(text("The Buyer looks at the goods at once, and tells the Seller of any fault within seven days. A fault that could not be seen is told within seven days after it was found.")),
             moved_paragraph("To", ANN, "title", TITLE),
-            paragraph(text("Where a delivery is late by more than ten days, the Buyer may take the goods from another seller, and Hay bears what these cost more.")),
-            heading("3. Payment"),
-            paragraph(
+            clause(text("Where a delivery is late by more than ten days, the Buyer may take the goods from another seller, and Hay bears what these cost more.")),
+            heading("Payment"),
+            clause(
                 text("The price is due within ")
+                + opened(0, 1)
                 + deleted(BOB, "thirty")
                 + inserted(ANN, "fourteen")
+                + closed(0, 1)
                 + text(" days of delivery")
                 + NOTE
                 + text(". The Buyer pays ")
@@ -225,7 +281,7 @@ def body():
                 + text(".")
             ),
             moved_paragraph("From", ANN, "title", TITLE),
-            paragraph(text("A payment that is late bears interest of five per cent a year. The Buyer may set off only what the Seller does not dispute, or what a court has found.")),
+            clause(text("A payment that is late bears interest of five per cent a year. The Buyer may set off only what the Seller does not dispute, or what a court has found.")),
             table(
                 row(cell(text("Account of the Seller")), cell(text("Bank of the North")), cell(text("GB00 0000 1234"))),
                 row(
@@ -243,20 +299,22 @@ def body():
                 ),
             ),
             paragraph(text("")),
-            heading("4. Warranty and liability"),
-            paragraph(text("The goods are new and as described in the order. Where they are not, the Seller mends or replaces them within ten days, and bears what that costs.")),
+            heading("Warranty and liability"),
+            clause(text("The goods are new and as described in the order. Where they are not, the Seller mends or replaces them within ten days, and bears what that costs.")),
+            clause(text("For damage this holds:"), "<w:keepNext/>"),
             paragraph(
                 text("The Seller is liable for damage that the goods cause ")
                 + deleted(DANA, "without limit")
                 + inserted(DANA, "up to the price of the order")
-                + text(". This limit does not hold for damage that was caused on purpose, or for harm to life and limb.")
+                + text(". This limit does not hold for damage that was caused on purpose, or for harm to life and limb."),
+                ITEM,
             ),
-            paragraph(inserted(DANA, "No party is liable for what nobody could prevent, such as war, flood or a strike."), "", mark("ins", DANA)),
-            heading("5. Term and end"),
-            paragraph(text("This agreement holds for two years from the day of the last signature. It goes on for a year each time, unless a party ends it three months before. Each party may end it at once where the other does not pay or deliver in spite of a written reminder.")),
-            paragraph(text("The parties keep what they learn of each other’s business to themselves, also for three years after the end of this agreement.")),
-            heading("6. Law and court"),
-            paragraph(text("The law of England holds. Courts in Leeds decide.")),
+            paragraph(inserted(DANA, "No party is liable for what nobody could prevent, such as war, flood or a strike."), ITEM, mark("ins", DANA)),
+            heading("Term and end"),
+            clause(text("This agreement holds for two years from the day of the last signature. It goes on for a year each time, unless a party ends it three months before. Each party may end it at once where the other does not pay or deliver in spite of a written reminder.")),
+            clause(text("The parties keep what they learn of each other’s business to themselves, also for three years after the end of this agreement.")),
+            heading("Law and court"),
+            clause(text("The law of England holds. Courts in Leeds") + referred(3) + text(" decide.")),
             paragraph(text("London and Leeds, 9 November 2026")),
             "<w:sectPr>%s%s</w:sectPr>" % (ends, former("sectPr", DANA, page % 1134, page % 1701)),
         ]
@@ -283,13 +341,22 @@ def footnotes():
     )
 
 
+def numbering():
+    """One list of three levels, as 1., 1.1 and (a), of which a style has the first and another one the second."""
+    levels = [("decimal", "Heading1", "%1."), ("decimal", "Clause", "%1.%2"), ("lowerLetter", None, "(%3)")]
+    level = '<w:lvl w:ilvl="%d"><w:start w:val="1"/><w:numFmt w:val="%s"/>%s<w:lvlText w:val="%s"/><w:lvlJc w:val="left"/><w:pPr><w:ind w:left="%d" w:hanging="567"/></w:pPr></w:lvl>\n'
+    of_style = lambda name: '<w:pStyle w:val="%s"/>' % name if name else ""
+    each = "".join(level % (at, sort, of_style(name), shown, 1134 if at == 2 else 567) for at, (sort, name, shown) in enumerate(levels))
+    return '<w:abstractNum w:abstractNumId="0"><w:multiLevelType w:val="multilevel"/>\n%s</w:abstractNum><w:num w:numId="1"><w:abstractNumId w:val="0"/></w:num>' % each
+
+
 def style(kind, name, shown, more=""):
     default = ' w:default="1"' if name in ("Normal", "TableNormal") else ""
     return '<w:style w:type="%s"%s w:styleId="%s"><w:name w:val="%s"/>%s</w:style>\n' % (kind, default, name, shown, more)
 
 
 def styles():
-    base = '<w:basedOn w:val="Normal"/>'
+    base, counted = '<w:basedOn w:val="Normal"/>', '<w:numPr><w:numId w:val="1"/></w:numPr>'
     grid = "".join('<w:%s w:val="single" w:sz="4" w:space="0" w:color="808080"/>' % side for side in ("top", "left", "bottom", "right", "insideH", "insideV"))
     return "".join(
         [
@@ -297,11 +364,13 @@ def styles():
             '<w:sz w:val="24"/></w:rPr></w:rPrDefault><w:pPrDefault><w:pPr><w:spacing w:after="160" w:line="300" w:lineRule="auto"/></w:pPr></w:pPrDefault></w:docDefaults>\n',
             style("paragraph", "Normal", "Normal", "<w:qFormat/>"),
             style("paragraph", "Title", "Title", base + '<w:pPr><w:jc w:val="center"/></w:pPr><w:rPr><w:sz w:val="40"/></w:rPr>'),
-            style("paragraph", "Heading1", "heading 1", base + '<w:pPr><w:keepNext/><w:spacing w:before="240"/><w:outlineLvl w:val="0"/></w:pPr><w:rPr><w:b/><w:sz w:val="28"/></w:rPr>'),
+            style("paragraph", "Heading1", "heading 1", base + '<w:pPr><w:keepNext/>%s<w:spacing w:before="240"/><w:outlineLvl w:val="0"/></w:pPr><w:rPr><w:b/><w:sz w:val="28"/></w:rPr>' % counted),
             style("paragraph", "Heading2", "heading 2", base + '<w:pPr><w:keepNext/><w:outlineLvl w:val="1"/></w:pPr><w:rPr><w:i/></w:rPr>'),
+            style("paragraph", "Clause", "Clause", base + "<w:pPr>%s</w:pPr>" % counted.replace("<w:numId", '<w:ilvl w:val="1"/><w:numId')),
             style("paragraph", "Header", "header", base),
             style("paragraph", "Footer", "footer", base + '<w:pPr><w:jc w:val="center"/></w:pPr>'),
             style("paragraph", "FootnoteText", "footnote text", base + '<w:rPr><w:sz w:val="20"/></w:rPr>'),
+            style("paragraph", "CommentText", "annotation text", base + '<w:rPr><w:sz w:val="20"/></w:rPr>'),
             style("character", "FootnoteReference", "footnote reference", '<w:rPr><w:vertAlign w:val="superscript"/></w:rPr>'),
             style("table", "TableNormal", "Normal Table", '<w:tblPr><w:tblInd w:w="0" w:type="dxa"/><w:tblCellMar><w:left w:w="108" w:type="dxa"/><w:right w:w="108" w:type="dxa"/></w:tblCellMar></w:tblPr>'),
             style("table", "TableGrid", "Table Grid", '<w:basedOn w:val="TableNormal"/><w:pPr><w:spacing w:after="0"/></w:pPr><w:tblPr><w:tblBorders>%s</w:tblBorders></w:tblPr>' % grid),
@@ -316,11 +385,13 @@ def settings():
 
 def package():
     """The text of contract.xml."""
-    root = lambda name, inside: '<w:%s xmlns:w="%s" xmlns:r="%s">%s</w:%s>' % (name, WORD, OFFICE, inside, name)
+    root = lambda name, inside, more="": '<w:%s xmlns:w="%s" xmlns:r="%s"%s>%s</w:%s>' % (name, WORD, OFFICE, more, inside, name)
+    later = lambda prefix, space: ' xmlns:mc="%s" xmlns:%s="%s" mc:Ignorable="%s"' % (COMPATIBILITY, prefix, space, prefix)
     rels = "application/vnd.openxmlformats-package.relationships+xml"
     of_document = relationships(
         ("header", "header1.xml"), ("footer", "footer1.xml"), ("footnotes", "footnotes.xml"), ("styles", "styles.xml"),
-        ("settings", "settings.xml"), ("image", "media/image1.png"),
+        ("settings", "settings.xml"), ("image", "media/image1.png"), ("numbering", "numbering.xml"), ("comments", "comments.xml"),
+        (STATES, "commentsExtended.xml"),
     )
     return "".join(
         [
@@ -332,7 +403,10 @@ def package():
             part("/word/footnotes.xml", TYPE % "footnotes", root("footnotes", footnotes())),
             part("/word/header1.xml", TYPE % "header", root("hdr", header())),
             part("/word/footer1.xml", TYPE % "footer", root("ftr", footer())),
+            part("/word/comments.xml", TYPE % "comments", root("comments", comments(), later("w14", LATER))),
+            part("/word/commentsExtended.xml", TYPE % "commentsExtended", '<w15:commentsEx%s>%s</w15:commentsEx>' % (later("w15", THREADS), threads())),
             '<pkg:part pkg:name="/word/media/image1.png" pkg:contentType="image/png" pkg:compression="store"><pkg:binaryData>%s</pkg:binaryData></pkg:part>\n' % picture(),
+            part("/word/numbering.xml", TYPE % "numbering", root("numbering", numbering())),
             part("/word/settings.xml", TYPE % "settings", root("settings", settings())),
             part("/word/styles.xml", TYPE % "styles", root("styles", styles())),
             "</pkg:package>\n",

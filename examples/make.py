@@ -124,6 +124,8 @@ CONTRACT_SAYS = {
     + words("Bob Hay", 2, "withdraw", 30),
     "cara": words("Cara Lee", 1, "accept", 1, 5, *range(7, 11), *range(34, 42), 44, 45),
 }
+# What Eve Hall decided in a word processor, in the order of the numbers.
+EVE_SAYS = sorted(words("Eve Hall", 1, "accept", 1, 5, *range(7, 11), 13, 29, 31, 34, 35, 36, 39, 40, 41) + words("Eve Hall", 1, "reject", 11, 12, 32, 33), key=lambda it: it[2])
 LOCKED = "Dana Fox & Co"
 BY_HAND = ["terms", "joins", "properties", "rows", "moves"]
 VIEWS = ["original", "final", "marked"]
@@ -173,6 +175,7 @@ def make_contract(folder):
     settled(folder, "contract", read)
     for name, says in CONTRACT_SAYS.items():
         folder.save("contract.%s.journal" % name, reading.journal(read, says))
+    folder.save("contract.eve.journal", reading.journal(read, EVE_SAYS))
     entries = sum(CONTRACT_SAYS.values(), [])
     folder.save("contract.written.xml", reading.written(read, entries))
     folder.save("contract.locked.xml", reading.written(read, entries, [LOCKED]))

@@ -182,7 +182,7 @@ def printed(driven):
     told("what is printed of the written document says so", "contract.xml as it would be written now: " in text and "still tracked in it. Printed on 20" in text, text[:300])
     it.step("standing")
     text = " ".join(" ".join(driven.printed()).split())
-    told("the tables are printed with the numbers of the changes", re.search(r"No\. Change .* 1 Supply agreement .* 49 ", text), text[:600])
+    told("the tables are printed with the numbers of the changes", re.search(r"No\. Clause Change .* 1 Supply agreement .* 49 ", text), text[:600])
     told("without the bars and the document", not any(words in text for words in ["Other reviewers", "Press the number", "Printed on"]), text[:600])
     same("nothing of the paper is left on the screen", it.run("return document.getElementById('paper')"), None)
 

@@ -85,8 +85,8 @@ def standing(it):
     cells = it.run("return [...document.querySelectorAll('#tables table')].map((it) => [it.caption.textContent, [...it.tBodies[0].rows].map((row) => [...row.cells].map((cell) => cell.textContent))])")
     disputed = next(rows for caption, rows in cells if caption.startswith("Disputed"))
     same("the disputed changes are first, by number", [row[0] for row in disputed], ["12", "32", "33", "42", "43"])
-    same("who is against whom", [disputed[1][4], disputed[1][5]], ["Ann Gray", "Bob Hay, Dee Wood"])
-    same("what stands around a change is in whole words", disputed[1][1], "The price is due within thirtyfourteen days of delivery. The Buyer…")
+    same("who is against whom", [disputed[1][5], disputed[1][6]], ["Ann Gray", "Bob Hay, Dee Wood"])
+    same("what stands around a change is in whole words, after its clause", disputed[1][1:3], ["3.1", "The price is due within thirtyfourteen days of delivery. The Buyer…"])
     people = next(rows for caption, rows in cells if caption.startswith("Reviewers"))
     same("each reviewer has a line", [row[0] for row in people], ["Ann Gray", "Bob Hay", "Cara Lee", "Dee Wood"])
     it.press("#tables td button, #tables th button")
@@ -184,7 +184,10 @@ def remains(driven):
     it.press("#show-remains")
     place = "/word/document.xml"
     moves = [["marker of a move without its text", "1", "moveToRange" + end, place] for end in ("Start Cara Lee", "End")]
-    same("what else is in it, with all changes accepted", it.run(rows), [*moves, ["Track Changes is switched on", "1", "", "/word/settings.xml"]])
+    comments = [["comment", "1", who, "/word/comments.xml"] for who in ("Cara Lee", "Ann Gray", "Dana Fox & Co")]
+    comments += [["comment that stands at no text any more", "1", "Ann Gray", "/word/comments.xml"], ["place of a comment in the text", "3", "", place]]
+    others = [["hidden text", "1", "", place], ["Track Changes is switched on", "1", "", "/word/settings.xml"]]
+    same("what else is in it, with all changes accepted", it.run(rows), [*moves, *comments, *others])
     it.run("document.querySelector('input[name=how]').click()")
     it.press("#show-remains")
     if REDLINE:
@@ -289,7 +292,7 @@ def locks_and_ranks(driven):
     captions = it.run("return [...document.querySelectorAll('#tables caption')].map((it) => it.textContent.split(':')[0].split(',')[0])")
     told("decided against somebody is shown", "Decided against somebody" in captions, str(captions))
     against = "const it = [...document.querySelectorAll('#tables table')].find((it) => /against/.test(it.caption.textContent));"
-    against += "return [...it.tBodies[0].rows].map((row) => [0, 4, 5].map((at) => row.cells[at].textContent))"
+    against += "return [...it.tBodies[0].rows].map((row) => [0, 5, 6].map((at) => row.cells[at].textContent))"
     same("with those on either side", it.run(against), [[number, "Ann Gray", "Bob Hay, Pat Stone"] for number in ("32", "33")])
 
 

@@ -162,7 +162,7 @@ def by_keys_alone(driven):
 CONTROLS = "button, input, select, a, summary, [tabindex], main, aside"
 # Signs in the document that stand for a change, and what a screen reader is told of each.
 SIGNS = [
-    (".props[data-revision='1']", "Change 1: text formatted (all capitals: on \u2192 not set) by Cara Lee, 2026-11-04"),
+    (".props[data-revision='1']", "Change 1: text formatted (hidden: not set \u2192 on) by Cara Lee, 2026-11-04"),
     (".props[data-revision='9']", "Change 9: row formatted (row stays on one page: not set \u2192 on) by Cara Lee, 2026-11-04"),
     (".row[data-revision='13']", "Change 13: row deleted by Bob Hay, 2026-11-03"),
     (".mark[data-revision='14']", "Change 14: paragraph end deleted by Bob Hay, 2026-11-03"),
