@@ -12,7 +12,8 @@ use Rattle.redl_idle.proofs.AheadLaws.{idle_laid}
 use Rattle.redl_stamp.specs.Attribute.{written_value}
 use Rattle.redl_page_stories.specs.declared.emphasis.Level.TheVariants.{Kids, Properties, Below}
 use Rattle.redl_page_stories.specs.Inside.Emphasis.{emphasis_rule, has_byte, letters_on, tag_with}
-use Rattle.redl_page_stories.specs.Shapes.{has_property, is_off, switched_on, switches}
+use Rattle.redl_page_stories.specs.Shapes.{has_property, switched_on, switches}
+use Rattle.redl_page_stories.specs.Values.{is_off}
 
 -- ---- one tag
 

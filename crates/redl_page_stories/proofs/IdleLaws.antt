@@ -22,7 +22,9 @@ use Rattle.redl_page_stories.specs.declared.shape.Shape.TheVariants as shape
 use Rattle.redl_page_stories.specs.Document.{bytes_pieces, element_pieces, end_as, inside, marks_in, nodes_pieces, start_as}
 use Rattle.redl_page_stories.specs.Inside.Idle.{behind_idle, idle_within, idle_named, idle_place, idle_shape, idle_start, idle_text, page_rule}
 use Rattle.redl_html.specs.Pieces.{HtmlPiece, own, pieces_text}
-use Rattle.redl_page_stories.specs.Shapes.{before_closing, behind_opening, closing, description_pieces, has_property, hidden_shape, holds_blocks, holds_list, inline_named, inline_shape, is_foreign, is_note, is_other, is_other_form, is_paragraph, is_reference, math_shape, opening, run_shape, set_shape, shape_named, shape_of, value_of}
+use Rattle.redl_page_stories.specs.Shapes.{before_closing, behind_opening, closing, has_property, hidden_shape, holds_blocks, holds_list, inline_named, inline_shape, is_foreign, is_note, is_other_form, is_paragraph, is_reference, math_shape, opening, run_shape, set_shape, shape_named, shape_of}
+use Rattle.redl_page_stories.specs.Starts.{description_pieces}
+use Rattle.redl_page_stories.specs.Values.{is_other, value_of}
 use Rattle.redl_page_stories.proofs.PastLaws.{idle_none, math_none, no_math, no_other, other_none}
 use Rattle.redl_html.proofs.PieceLaws.{pieces_text-append}
 use Rattle.redl_page_stories.proofs.NodeLaws.{element_text-by, shape_end-text}

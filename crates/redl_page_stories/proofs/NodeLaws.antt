@@ -19,7 +19,8 @@ use Rattle.redl_page_stories.specs.declared.values.Property.{Property}
 use Rattle.redl_html.specs.Escaping.{escaped}
 use Rattle.redl_html.specs.Pieces.{HtmlPiece, own, pieces_text}
 use Rattle.redl_html.proofs.PieceLaws.{pieces_text-append}
-use Rattle.redl_page_stories.specs.Shapes.{before_closing, closing, has_property, holds_blocks, is_paragraph, shape_of, switched_on, value_in, value_of}
+use Rattle.redl_page_stories.specs.Shapes.{before_closing, closing, has_property, holds_blocks, is_paragraph, shape_of, switched_on}
+use Rattle.redl_page_stories.specs.Values.{value_in, value_of}
 use Rattle.redl_page_stories.specs.declared.shape.Shape.{Shape}
 use Rattle.redl_page_stories.specs.Signs.{author_at, sign, sign_text, edge}
 use Rattle.redl_page_stories.specs.Document.{in_story, section_name, section_start, section, shape_end, start_as, end_as, element_pieces, marks_in, nodes_pieces, section_in, sections, section_at, name_at, is_first_after}

@@ -19,7 +19,8 @@ use Rattle.redl_page_stories.specs.declared.place.PageSummary.{PageSummary}
 use Rattle.redl_page_stories.specs.declared.values.Property.{Property}
 use Rattle.redl_page_stories.specs.declared.values.Property.TheVariants.{Style, Direction, Span, Merge, OperatorSign, AccentSign, FirstDelimiter, LastDelimiter, Description}
 use Rattle.redl_page_stories.specs.Document.{bytes_pieces, element_pieces, inside, marks_in, nodes_pieces}
-use Rattle.redl_page_stories.specs.Shapes.{given_by, has_property, holds, holds_blocks, is_block, is_other, is_other_form, switched_on, switches, value_in, value_of}
+use Rattle.redl_page_stories.specs.Shapes.{has_property, holds_blocks, is_block, is_other_form, switched_on, switches}
+use Rattle.redl_page_stories.specs.Values.{given_by, holds, is_other, value_in, value_of}
 use Rattle.redl_page_stories.specs.Signs.{member}
 
 -- ---- nodes one after the other

@@ -5,7 +5,8 @@ use Rattle.redl_reading.specs.Steps.{Gives}
 use Rattle.redl_tree.specs.Model.Nodes.{Nodes}
 use Rattle.redl_html.specs.Pieces.{own, piece_text, pieces_text}
 use Rattle.redl_html.proofs.PieceLaws.{pieces_text-append}
-use Rattle.redl_page_stories.specs.Shapes.{cell_pieces, direction_pieces, merge_pieces, paragraph_pieces, sign_piece, sign_text, span_pieces, style_pieces, value_of}
+use Rattle.redl_page_stories.specs.Starts.{cell_pieces, direction_pieces, merge_pieces, paragraph_pieces, sign_piece, sign_text, span_pieces, style_pieces}
+use Rattle.redl_page_stories.specs.Values.{value_of}
 use Rattle.redl_page_stories.specs.declared.values.Property.TheVariants.{Style, Direction, Span, Merge}
 
 -- a value that was found, as plain data

@@ -2,25 +2,16 @@
 -- by their names, where no ancestor holds properties. Of properties, hidden, bold and italic runs are shown, the style and the direction
 -- of a paragraph, and which cells are merged.
 use Prim.Native.String.{String}
-use Rattle.std.specs.Prelude.{ℕ, ◌==◌, Bool, true, false, ◌&&◌, ◌||◌, not, List, [], ◌∷◌, ◌++◌, Option, Some, None, unwrap_or, bytes_eq, codes, encode_utf8, is_some, length, nat_le, nat_lt, if◌then◌else◌}
-use Rattle.std.specs.Option.{option_or}
+use Rattle.std.specs.Prelude.{ℕ, Bool, true, false, ◌&&◌, ◌||◌, not, List, [], ◌∷◌, bytes_eq, codes, is_some, if◌then◌else◌}
 use Rattle.redl_tree.specs.Model.Nodes.{Tag, Nodes, no_nodes, bytes, element}
-use Rattle.redl_tree.specs.Roles.Names.{is, is_m, is_math, is_w, named}
-use Rattle.redl_tree.specs.declared.kinds.Space.{Space}
-use Rattle.redl_tree.specs.declared.kinds.Space.TheVariants.{Other}
-use Rattle.redl_shown.specs.Shown.{shown}
+use Rattle.redl_tree.specs.Roles.Names.{is, is_m, is_math, named}
 use Rattle.redl_stamp.specs.Attribute.{attribute_value, written_value}
-use Rattle.redl_html.specs.Escaping.{escaped}
-use Rattle.redl_html.specs.Pieces.{HtmlPiece, own, outside}
-use Rattle.redl_grammar.specs.References.{reference_at}
-use Rattle.redl_page_stories.specs.declared.values.Property.{Property}
-use Rattle.redl_page_stories.specs.declared.values.Property.TheVariants.{Style, Direction, Span, Merge, OperatorSign, AccentSign, FirstDelimiter, LastDelimiter, Description}
+use Rattle.redl_html.specs.Pieces.{HtmlPiece}
+use Rattle.redl_page_stories.specs.declared.values.Property.TheVariants.{OperatorSign, AccentSign, FirstDelimiter, LastDelimiter, Description}
 use Rattle.redl_page_stories.specs.declared.shape.Shape.{Shape}
 use Rattle.redl_page_stories.specs.declared.shape.Shape.TheVariants.{Nothing, Paragraph, Division, Table, Row, Cell, TextBox, Bold, Italic, BoldItalic, Hidden, HiddenBold, HiddenItalic, HiddenBoldItalic, Tab, Break, Hyphen, SoftHyphen, Symbol, Picture, Reference, Note, Blocks, Foreign, OtherForm, Equation, Argument, Divisor, Below, Above, Bracketed, Root, Operator, Accent, Delimiters}
-
-abbrev pub is_other : Space → Bool
-is_other Other = true
-is_other _ = false
+use Rattle.redl_page_stories.specs.Values.{is_other, is_off, value_of}
+use Rattle.redl_page_stories.specs.Starts.{note_pieces, sign_piece, description_pieces, break_pieces, symbol_pieces, paragraph_pieces, cell_pieces}
 
 -- content that a file keeps in a second form, for programs that can't read the first (ECMA-376 Part 3, 9.3)
 abbrev pub is_other_form : Tag → Bool
@@ -37,11 +28,6 @@ holds_blocks (bytes b rest) = holds_blocks rest
 holds_blocks (element tag kids rest) = is_block tag || holds_blocks kids || holds_blocks rest
 
 -- ---- hidden, bold and italic runs
-
--- the value switches a property off (ECMA-376 Part 1, 17.17.4)
-abbrev pub is_off : Option (List ℕ) → Bool
-is_off None = false
-is_off (Some value) = bytes_eq value (codes "0") || bytes_eq value (codes "false") || bytes_eq value (codes "off")
 
 -- the element has this name, and switches its property on
 abbrev pub switches : List ℕ → Tag → Bool
@@ -237,164 +223,7 @@ is_paragraph Paragraph = true
 is_paragraph Division = true
 is_paragraph _ = false
 
--- ---- values of attributes
-
--- the name of a property
-abbrev pub property_name : Property → List ℕ
-property_name Style = codes "pStyle"
-property_name Direction = codes "bidi"
-property_name Span = codes "gridSpan"
-property_name Merge = codes "vMerge"
-property_name OperatorSign = codes "chr"
-property_name AccentSign = codes "chr"
-property_name FirstDelimiter = codes "begChr"
-property_name LastDelimiter = codes "endChr"
-property_name Description = codes "docPr"
-
--- whether it is one of W, of mathematics, or of drawings
-abbrev pub is_in : Property → Space → Bool
-is_in Style space = is_w space
-is_in Direction space = is_w space
-is_in Span space = is_w space
-is_in Merge space = is_w space
-is_in OperatorSign space = is_m space
-is_in AccentSign space = is_m space
-is_in FirstDelimiter space = is_m space
-is_in LastDelimiter space = is_m space
-is_in Description space = is_other space
-
--- what a property with this tail gives: its value as it is written; without one most give nothing
-abbrev pub given : Property → List ℕ → Option (List ℕ)
-given Style tail = written_value tail (codes "val")
-given Direction tail = Some (unwrap_or (written_value tail (codes "val")) [])
-given Span tail = written_value tail (codes "val")
-given Merge tail = Some (unwrap_or (written_value tail (codes "val")) [])
-given OperatorSign tail = written_value tail (codes "val")
-given AccentSign tail = written_value tail (codes "val")
-given FirstDelimiter tail = written_value tail (codes "val")
-given LastDelimiter tail = written_value tail (codes "val")
-given Description tail = written_value tail (codes "descr")
-
--- what an element gives as this property (17.3.1.27, 17.3.1.6, 17.4.17, 17.4.84, 22.1.2.20, 22.1.2.10, 22.1.2.33 and 20.4.2.5)
-abbrev pub given_by : Property → Tag → Option (List ℕ)
-given_by property tag = if is_in property tag.space && bytes_eq tag.local (property_name property) then given property tag.tail else None
-
--- the first value of a property that is given among these
-abbrev pub value_in : Property → Nodes → Option (List ℕ)
-value_in property no_nodes = None
-value_in property (bytes b rest) = value_in property rest
-value_in property (element tag kids rest) = option_or (given_by property tag) (value_in property rest)
-
--- an element that holds properties of this sort: those of a paragraph, of a cell, of a structure of an equation, or of a drawing
-abbrev pub holds : Property → Tag → Bool
-holds Style tag = is "pPr" tag
-holds Direction tag = is "pPr" tag
-holds Span tag = is "tcPr" tag
-holds Merge tag = is "tcPr" tag
-holds OperatorSign tag = is_math "naryPr" tag
-holds AccentSign tag = is_math "accPr" tag
-holds FirstDelimiter tag = is_math "dPr" tag
-holds LastDelimiter tag = is_math "dPr" tag
-holds Description tag = is_other tag.space
-
--- the value of a property of an element with these kids
-abbrev pub value_of : Property → Nodes → Option (List ℕ)
-value_of property no_nodes = None
-value_of property (bytes b rest) = value_of property rest
-value_of property (element tag kids rest) = option_or (if holds property tag then value_in property kids else None) (value_of property rest)
-
--- a paragraph from right to left
-abbrev pub direction_pieces : Option (List ℕ) → List HtmlPiece
-direction_pieces None = []
-direction_pieces (Some value) = if is_off (Some value) then [] else own " dir=\"rtl\"" ∷ []
-
--- a cell over several columns
-abbrev pub span_pieces : Option (List ℕ) → List HtmlPiece
-span_pieces None = []
-span_pieces (Some value) = own " colspan=\"" ∷ outside (shown value) ∷ own "\"" ∷ []
-
--- a cell that goes on from the one above
-abbrev pub merge_pieces : Option (List ℕ) → List HtmlPiece
-merge_pieces None = []
-merge_pieces (Some value) = if bytes_eq value (codes "restart") then [] else own " class=\"merged\"" ∷ []
-
--- the end of the start tag of a paragraph with this style, as it is written, if it has one
-abbrev pub style_pieces : Option (List ℕ) → List HtmlPiece
-style_pieces None = own ">" ∷ []
-style_pieces (Some style) = own " data-style=\"" ∷ outside (shown style) ∷ own "\">" ∷ []
-
--- the sign of a note with this id, and its end
-abbrev pub note_pieces : Option (List ℕ) → List HtmlPiece
-note_pieces None = own "</sup>" ∷ []
-note_pieces (Some id) = outside (shown id) ∷ own "</sup>" ∷ []
-
--- ---- signs of equations
-
--- a sign that is given, or else this one
-abbrev pub sign_piece : String → Option (List ℕ) → HtmlPiece
-sign_piece usual None = own usual
-sign_piece usual (Some sign) = outside (shown sign)
-
--- what is written of it
-abbrev pub sign_text : List ℕ → Option (List ℕ) → List ℕ
-sign_text usual None = usual
-sign_text usual (Some sign) = escaped (shown sign)
-
--- ---- pictures
-
--- what the document says that a picture shows
-abbrev pub said_pieces : List ℕ → List HtmlPiece
-said_pieces text = own ": " ∷ outside (shown text) ∷ own "</span>" ∷ []
-
--- the end of the word for a picture, after that
-abbrev pub description_pieces : Option (List ℕ) → List HtmlPiece
-description_pieces None = own "</span>" ∷ []
-description_pieces (Some text) = if length text == 0 then own "</span>" ∷ [] else said_pieces text
-
--- ---- breaks
-
--- where a page or a column ends, in place of a line alone (17.3.3.1 and 17.18.3)
-abbrev pub break_pieces : Option (List ℕ) → List HtmlPiece
-break_pieces None = []
-break_pieces (Some sort) =
-    if bytes_eq sort (codes "page") then own "<span class=\"page-end\"></span>" ∷ []
-    else if bytes_eq sort (codes "column") then own "<span class=\"column-end\"></span>" ∷ []
-    else []
-
--- ---- symbols
-
--- a character that fonts agree on: no control character, and none for private use
-abbrev pub is_agreed : ℕ → Bool
-is_agreed c = (nat_le 0x20 c && nat_lt c 0x7F) || (nat_le 0xA0 c && nat_lt c 0xE000) || nat_le 0xF900 c
-
--- a character that is shown, or else a box
-abbrev pub character_piece : ℕ → HtmlPiece
-character_piece c = if is_agreed c then outside (encode_utf8 c) else own "&#9633;"
-
--- the character of a reference
-abbrev pub referenced : Option (ℕ × List ℕ) → HtmlPiece
-referenced None = own "&#9633;"
-referenced (Some x) = character_piece x.0
-
--- the symbol with this number, of four hexadecimal digits (17.3.3.30)
-unfoldable pub numbered : List ℕ → HtmlPiece
-numbered (a ∷ b ∷ c ∷ d ∷ []) = referenced (reference_at (35 ∷ 120 ∷ a ∷ b ∷ c ∷ d ∷ 59 ∷ []))
-numbered _ = own "&#9633;"
-
-abbrev pub symbol_piece : Option (List ℕ) → HtmlPiece
-symbol_piece None = own "&#9633;"
-symbol_piece (Some digits) = numbered digits
-
-abbrev pub symbol_pieces : Option (List ℕ) → List HtmlPiece
-symbol_pieces digits = symbol_piece digits ∷ own "</span>" ∷ []
-
 -- ---- what comes behind the opening
-
-abbrev pub paragraph_pieces : Nodes → List HtmlPiece
-paragraph_pieces kids = direction_pieces (value_of Direction kids) ++ style_pieces (value_of Style kids)
-
-abbrev pub cell_pieces : Nodes → List HtmlPiece
-cell_pieces kids = span_pieces (value_of Span kids) ++ (merge_pieces (value_of Merge kids) ++ (own ">" ∷ []))
 
 abbrev pub behind_opening : Shape → Tag → Nodes → List HtmlPiece
 behind_opening Paragraph tag kids = paragraph_pieces kids

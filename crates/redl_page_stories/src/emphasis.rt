@@ -8,7 +8,8 @@ ghost use Rattle.redl_stamp.specs.Attribute.{written_value};
 ghost use Rattle.redl_idle.specs.Ahead.{Begins};
 ghost use Rattle.redl_page_stories.specs.Inside.Emphasis.{letters_on, level_in, noted, tag_with};
 ghost use Rattle.redl_page_stories.specs.declared.emphasis.Level.TheVariants.{Properties};
-ghost use Rattle.redl_page_stories.specs.Shapes.{has_property, is_off, switched_on, switches};
+ghost use Rattle.redl_page_stories.specs.Shapes.{has_property, switched_on, switches};
+ghost use Rattle.redl_page_stories.specs.Values.{is_off};
 ghost use Rattle.redl_page_stories.specs.Inside.Items.{item_has_property, item_switches};
 
 use crate::values::written_value;

@@ -6,7 +6,9 @@ ghost use Rattle.redl_tree.specs.Model.View.{nodes_of, item_of, tag_of, kids_of}
 ghost use Rattle.redl_shown.specs.Shown.{shown};
 ghost use Rattle.redl_page_stories.specs.Document.{element_pieces, end_as, inside, marks_in, nodes_pieces, shape_end, shape_start, start_as};
 ghost use Rattle.redl_html.specs.Pieces.{piece_text, pieces_text};
-ghost use Rattle.redl_page_stories.specs.Shapes.{before_closing, behind_opening, description_pieces, is_paragraph, sign_piece, value_of};
+ghost use Rattle.redl_page_stories.specs.Shapes.{before_closing, behind_opening, is_paragraph};
+ghost use Rattle.redl_page_stories.specs.Starts.{description_pieces, sign_piece};
+ghost use Rattle.redl_page_stories.specs.Values.{value_of};
 ghost use Rattle.redl_page_stories.specs.declared.values.Property.TheVariants.{AccentSign, Description, OperatorSign};
 ghost use Rattle.redl_page_stories.specs.declared.marks.Depth.TheVariants.{Kids};
 ghost use Rattle.redl_page_stories.specs.Inside.Items.{item_pieces};

@@ -5,7 +5,7 @@ ghost use Rattle.redl_io.specs.Sink.{Puts};
 ghost use Rattle.redl_grammar.specs.References.{reference_at};
 ghost use Rattle.redl_tree.specs.Model.View.{nodes_of};
 ghost use Rattle.redl_html.specs.Pieces.{piece_text, pieces_text};
-ghost use Rattle.redl_page_stories.specs.Shapes.{break_pieces, cell_pieces, character_piece, description_pieces, direction_pieces, is_agreed, merge_pieces, numbered, paragraph_pieces, referenced, said_pieces, sign_text, span_pieces, symbol_piece, symbol_pieces};
+ghost use Rattle.redl_page_stories.specs.Starts.{break_pieces, cell_pieces, character_piece, description_pieces, direction_pieces, is_agreed, merge_pieces, numbered, paragraph_pieces, referenced, said_pieces, sign_text, span_pieces, symbol_piece, symbol_pieces};
 
 use crate::emphasis::is_off;
 use crate::shown::put_shown;
@@ -176,7 +176,7 @@ fn put_given_symbol<K: Sink>(digits: Option<&[u8]>, out: &mut K) -> Result<(), F
     }
 }
 
-#[tactic(auto, unfolding(crate::specs::Shapes::numbered))]
+#[tactic(auto, unfolding(crate::specs::Starts::numbered))]
 fn put_numbered<K: Sink>(digits: &[u8], out: &mut K) -> Result<(), Failed>
     ensures { Puts K.told K.faults K.settled K.lenders out.old out.new (piece_text (numbered digits.now)) result }
 {

@@ -10,7 +10,8 @@ ghost use Rattle.redl_laid.specs.Firsts.{first_item};
 ghost use Rattle.redl_tree.specs.Model.IdleTexts.{idle_nodes};
 ghost use Rattle.redl_tree.specs.Model.View.{nodes_of, item_of, tag_of};
 ghost use Rattle.redl_html.specs.Pieces.{pieces_text};
-ghost use Rattle.redl_page_stories.specs.Shapes.{given, holds, is_in, note_pieces, property_name, style_pieces, value_in, value_of};
+ghost use Rattle.redl_page_stories.specs.Starts.{note_pieces, style_pieces};
+ghost use Rattle.redl_page_stories.specs.Values.{given, holds, is_in, property_name, value_in, value_of};
 ghost use Rattle.redl_page_stories.specs.Inside.Items.{item_value, item_value_in};
 
 use crate::place::is_in_math;

@@ -11,7 +11,8 @@ use Rattle.redl_page_stories.specs.declared.shape.Shape.{Shape}
 use Rattle.redl_page_stories.specs.declared.shape.Shape.TheVariants.{Nothing, Break, Symbol, Picture, Reference, Note}
 use Rattle.redl_page_stories.specs.Document.{bytes_pieces}
 use Rattle.redl_html.specs.Pieces.{HtmlPiece, own, pieces_text}
-use Rattle.redl_page_stories.specs.Shapes.{break_pieces, closing, description_pieces, inline_shape, is_reference, note_pieces, opening, run_shape, symbol_pieces}
+use Rattle.redl_page_stories.specs.Shapes.{closing, inline_shape, is_reference, opening, run_shape}
+use Rattle.redl_page_stories.specs.Starts.{break_pieces, description_pieces, note_pieces, symbol_pieces}
 
 -- what an idle element with this local name and these kids is shown as, by its name
 abbrev pub idle_named : List ℕ → Nodes → Shape

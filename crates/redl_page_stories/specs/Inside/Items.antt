@@ -11,7 +11,8 @@ use Rattle.redl_page_stories.specs.declared.marks.Depth.TheVariants.{Kids, Prope
 use Rattle.redl_page_stories.specs.declared.place.PageSummary.{PageSummary}
 use Rattle.redl_page_stories.specs.Document.{bytes_pieces, element_pieces, inside, marks_in, nodes_pieces}
 use Rattle.redl_html.specs.Pieces.{HtmlPiece}
-use Rattle.redl_page_stories.specs.Shapes.{given_by, holds, holds_blocks, is_block, switched_on, switches, value_in}
+use Rattle.redl_page_stories.specs.Shapes.{holds_blocks, is_block, switched_on, switches}
+use Rattle.redl_page_stories.specs.Values.{given_by, holds, value_in}
 use Rattle.redl_page_stories.specs.Signs.{member}
 
 -- ---- blocks

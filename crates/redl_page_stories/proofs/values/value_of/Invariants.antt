@@ -1,6 +1,6 @@
 use Rattle.std.proofs.Common.{◌≡◌, drop}
 use Rattle.redl_tree.specs.Model.View.{nodes_of}
-use Rattle.redl_page_stories.specs.Shapes.{value_of}
+use Rattle.redl_page_stories.specs.Values.{value_of}
 use Rattle.redl_page_stories.proofs.values.value_of.Given as goal
 
 -- the answer is that of the nodes that are left
