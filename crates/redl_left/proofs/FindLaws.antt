@@ -2,7 +2,7 @@
 use Rattle.std.proofs.Common.{◌≡◌, ◌∙◌, refl, sym, ap, ℕ, List, [], ◌∷◌, ◌++◌, append_assoc, Bool, true, false, true≢false, Option, None, Some, ◌&&◌, if◌then◌else◌, codes, ◌<◌, ◌+◌, length, get_or, drop, map}
 use Rattle.std.proofs.lemmas.List.{drop_more}
 use Rattle.redl_tree.specs.Model.Nodes.{Tag, Nodes, no_nodes, bytes, element, ◌⊕◌}
-use Rattle.redl_tree.specs.Roles.Names.{is, is_w}
+use Rattle.redl_tree.specs.Roles.Names.{is_w}
 use Rattle.redl_tree.specs.Roles.Idle.{is_idle_in}
 use Rattle.redl_tree.specs.declared.kinds.Kind.{Kind}
 use Rattle.redl_tree.specs.declared.kinds.Kind.TheVariants as kinds

@@ -1,5 +1,5 @@
 -- Up to the next quote there is none, and after it an author is named at most by an `author`.
-use Rattle.std.proofs.Common.{ap, sym, refl, subst, length, arith, ◌∷◌, ℕ, List, []}
+use Rattle.std.proofs.Common.{ap, sym, refl, subst, length, arith, ◌∷◌, []}
 use Rattle.redl_reading.proofs.Runs.{after_fits}
 use Rattle.redl_left.specs.Fronts.{back, QuotesPass}
 use Rattle.redl_left.specs.Search.{table_of}

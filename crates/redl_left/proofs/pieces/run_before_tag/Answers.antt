@@ -3,7 +3,7 @@ use Rattle.std.proofs.Common.{◌≢◌, ◌∙◌, ap, sym, subst, List, ℕ, [
 use Rattle.redl_grammar.specs.declared.section.Section.TheVariants.{InElement}
 use Rattle.redl_grammar.specs.Pieces.{Stands, stretch}
 use Rattle.redl_grammar.specs.Stretches.{begins_item}
-use Rattle.redl_reading.specs.Lists.{after, front, is_other}
+use Rattle.redl_reading.specs.Lists.{after, is_other}
 use Rattle.redl_left.proofs.PieceLaws.{filled, run_stands}
 use Rattle.redl_left.proofs.pieces.run_before_tag.Goals as goal
 

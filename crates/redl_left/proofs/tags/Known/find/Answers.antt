@@ -1,5 +1,4 @@
 -- What begins with the text of a known tag begins with the tag.
-use Rattle.std.proofs.Common.{◌∙◌}
 use Rattle.redl_reading.proofs.Words.{behind_takes}
 use Rattle.redl_left.proofs.PieceLaws.{tag_stands}
 use Rattle.redl_left.proofs.tags.Known.find.Goals as goal
