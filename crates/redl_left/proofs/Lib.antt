@@ -6,4 +6,5 @@ pub mod AttributeLaws
 pub mod NamingLaws
 pub mod RowLaws
 pub mod PieceLaws
+pub mod AlikeLaws
 mod Worked

@@ -1,5 +1,5 @@
 -- A kept text in which neither `author` nor `Reference` is holds nothing that names a comment, a note or an author.
-use Rattle.std.proofs.Common.{◌≡◌, ◌∙◌, refl, sym, ap, subst, List, ℕ, [], ◌∷◌, ◌++◌, Bool, true, false, true≢false, cond, bytes_eq, codes, find, Option, None, Some}
+use Rattle.std.proofs.Common.{◌≡◌, ◌∙◌, refl, sym, ap, subst, List, ℕ, [], ◌∷◌, ◌++◌, Bool, true, false, true≢false, cond, bytes_eq, codes, find, Option, None, Some, ◌<◌, ◌≤◌, length, arith, lit≤}
 use Rattle.std.specs.Prelude.{take, drop}
 use Rattle.std.specs.List.{AllByRecursion}
 use Rattle.std.proofs.lemmas.Bool.{and_parts}
@@ -69,16 +69,48 @@ only_author in_run parent local tail idle lacking =
       ),
     )
 
+-- a name is another one than a longer one
+longer : (local name : List ℕ) → length local < 7 → 7 ≤ length name → bytes_eq local name ≡ false
+longer local name short long = by (bytes_eq local name) refl
+  where
+    by : (b : Bool) → bytes_eq local name ≡ b → b ≡ false
+    by true e = absurd (omega (arith, short, long, ap length (same_bytes local name e)))
+    by false e = refl
+
+short_author : (parent local tail : List ℕ) → length local < 7 → first_row none NAMING parent spaces.W local tail ≡ Some author_row
+short_author parent local tail short =
+    find_after (asks none parent spaces.W local tail) (take 5 NAMING) (drop 5 NAMING) (
+      both_false _ _ (longer local (codes "commentReference") short (lit≤ tt)),
+      (
+        both_false _ _ (longer local (codes "footnoteReference") short (lit≤ tt)),
+        (
+          both_false _ _ (longer local (codes "endnoteReference") short (lit≤ tt)),
+          (both_false _ _ (longer local (codes "footnote") short (lit≤ tt)), (both_false _ _ (longer local (codes "endnote") short (lit≤ tt)), tt)),
+        ),
+      ),
+    )
+
 -- ---- nodes
+
+-- an element of W whose row is that of authors, and that has none, names nothing
+nobody : (part parent : List ℕ) (tag : Tag) (kids : Nodes) → tag.space ≡ spaces.W → first_row none NAMING parent spaces.W tag.local tag.tail ≡ Some author_row
+    → lacks (codes "author") tag.tail ≡ true → found naming part parent tag kids ≡ []
+nobody part parent tag kids space row lacking =
+    let names = found_names naming part tag.tail in
+    ap (λ (s : Space). found_row part s tag.local tag.tail kids (first_row none NAMING parent s tag.local tag.tail) ++ names) space
+    ∙ ap (λ (o : Option Row). found_row part spaces.W tag.local tag.tail kids o ++ names) row
+    ∙ ap (λ (o : Option (List ℕ)). found_value part author_row (value_or_nothing o) ++ names) (no_value (codes "author") tag.tail lacking)
+    ∙ none_among naming (λ value. refl) part (attributes_of tag.tail)
+
+-- so does one with a short name
+pub short_names_nothing : (part parent : List ℕ) (tag : Tag) (kids : Nodes) → tag.space ≡ spaces.W → length tag.local < 7 → lacks (codes "author") tag.tail ≡ true
+    → found naming part parent tag kids ≡ []
+short_names_nothing part parent tag kids space short lacking = nobody part parent tag kids space (short_author parent tag.local tag.tail short) lacking
 
 found_none : (part parent : List ℕ) (in_run : Bool) (tag : Tag) (kids : Nodes) → Idle in_run tag
     → lacks (codes "Reference") tag.local ≡ true → lacks (codes "author") tag.tail ≡ true → found naming part parent tag kids ≡ []
 found_none part parent in_run tag kids i local tail =
-    let names = found_names naming part tag.tail in
-    ap (λ (s : Space). found_row part s tag.local tag.tail kids (first_row none NAMING parent s tag.local tag.tail) ++ names) (is_space_w tag.space i.space)
-    ∙ ap (λ (o : Option Row). found_row part spaces.W tag.local tag.tail kids o ++ names) (only_author in_run parent tag.local tag.tail i.name local)
-    ∙ ap (λ (o : Option (List ℕ)). found_value part author_row (value_or_nothing o) ++ names) (no_value (codes "author") tag.tail tail)
-    ∙ none_among naming (λ value. refl) part (attributes_of tag.tail)
+    nobody part parent tag kids (is_space_w tag.space i.space) (only_author in_run parent tag.local tag.tail i.name local) tail
 
 naming_in : (in_run : Bool) (part parent : List ℕ) (x : Nodes) → is_idle_in in_run x ≡ true → AreLaid spaces.W x
     → lacks (codes "author") (text x) ≡ true → lacks (codes "Reference") (text x) ≡ true → finds naming part parent x ≡ []

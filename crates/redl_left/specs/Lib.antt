@@ -5,6 +5,7 @@ pub mod Finds
 pub mod Fronts
 pub mod Lines
 pub mod Naming
+pub mod Alike
 pub mod Search
 pub mod Seen
 pub mod Pieces

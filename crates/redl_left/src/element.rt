@@ -25,8 +25,13 @@ pub(crate) struct Below<'p, 's, 'n> {
     pub(crate) part: &'p [u8],
 }
 
-// Notes a find of a row, of which this is told. `Err` means out of memory.
-fn note_value(part: &[u8], row: &Row, value: &[u8], seen: &mut Seen) -> Result<(), AllocError>
+/// Notes a find of a row, of which this is told. `Err` means out of memory.
+pub(crate) fn note_value(
+    part: &[u8],
+    row: &Row,
+    value: &[u8],
+    seen: &mut Seen,
+) -> Result<(), AllocError>
     ensures { OnOk result (tables_of seen.new ≡ noted_all (tables_of seen.old) (found_value part.now row.now value.now)) }
 {
     if is_nothing(&row.value, value) {

@@ -2,11 +2,13 @@
 
 ghost use Rattle.std.specs.Prelude.{◌≡◌, IfOk};
 ghost use Rattle.redl_tree.specs.Model.View.{nodes_of};
+ghost use Rattle.redl_left.specs.Alike.{NameAlike};
 ghost use Rattle.redl_left.specs.Lines.{left_lines, naming_tables, tables_of_nodes};
 ghost use Rattle.redl_left.specs.Search.{table_of};
 ghost use Rattle.redl_left.specs.Seen.{tables_of};
 
 use crate::element::Below;
+use crate::gather::gather_nodes;
 use crate::line::Line;
 use crate::named::Named;
 use crate::search::Search;
@@ -27,11 +29,14 @@ pub fn lines(alloc: Global, nodes: &[Node]) -> Result<Vec<Line>, AllocError>
     seen.into_lines()
 }
 
-// What names comments, notes and authors. `Err` means out of memory.
+// Lines in which all that names comments, notes and authors is told. `Err` means out of memory.
 fn see_naming(alloc: Global, nodes: &[Node]) -> Result<Seen, AllocError>
-    ensures { IfOk result (λ seen. tables_of seen ≡ naming_tables (nodes_of nodes.now)) }
+    ensures { IfOk result (λ seen. NameAlike (tables_of seen) (naming_tables (nodes_of nodes.now))) }
 {
-    see(alloc, &Search::Naming, nodes)
+    let mut seen = Seen::none(alloc)?;
+    let mut known = Known::none(alloc)?;
+    gather_nodes(&mut known, b"", b"", nodes, &mut seen)?;
+    Ok(seen)
 }
 
 // What all elements are found to be. `Err` means out of memory.

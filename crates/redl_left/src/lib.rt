@@ -1,8 +1,8 @@
 //! What a document still holds that a reader doesn't see: the nodes of a package go in, lines come out.
 //!
 //! Read `lines` first. It goes twice over all nodes, and asks for each element which row of a table it is a find of: a row is a
-//! fact, a test of an element, and what is told of it. The first walk finds what names comments, notes and authors (`NAMING`), and
-//! the second one all that is left (`ROWS`), and where else the name of an author stands. `lines` promises the finds of each fact
+//! fact, a test of an element, and what is told of it. The first walk (`gather.rt`) finds what names comments, notes and authors
+//! (`NAMING`), and the second one all that is left (`ROWS`), and where else the name of an author stands. `lines` promises the finds of each fact
 //! in their order, where neighbours in one part with one value are one line. Kept text is read piece by piece (`pieces.rt`), and a
 //! tag that was read before is known by its text (`tags.rt`). Which revisions a package has, how their members are marked, and the
 //! texts of the lines are left to other crates.
@@ -12,6 +12,7 @@
 mod element;
 mod fact;
 mod find;
+mod gather;
 mod left;
 mod line;
 mod name;

@@ -20,8 +20,8 @@ use crate::rows::{NAMING, ROWS};
 use redl_pairs::{lacks_pairs, lacks_word};
 use std::alloc::{AllocError, Global};
 
-// The length of the shortest name that `NAMING` asks for.
-const SHORTEST: usize = 7;
+/// The length of the shortest name that `NAMING` asks for.
+pub(crate) const SHORTEST: usize = 7;
 
 // The longest name for which the rows that may ask for it are listed.
 const LONGEST: usize = 27;
@@ -112,8 +112,11 @@ impl<'a> Search<'a> {
     }
 }
 
-// The first row of `NAMING` that asks for an element. `Err` means out of memory.
-fn first_naming(alloc: Global, asked: &Asked<'_>) -> Result<Option<&'static Row>, AllocError>
+/// The first row of `NAMING` that asks for an element. `Err` means out of memory.
+pub(crate) fn first_naming(
+    alloc: Global,
+    asked: &Asked<'_>,
+) -> Result<Option<&'static Row>, AllocError>
     ensures { IfOk result (λ found. option_copied found ≡ naming.first asked.now.parent.now asked.now.space asked.now.local.now asked.now.tail.now) }
 {
     let nothing = Named::none(alloc);

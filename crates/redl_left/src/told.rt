@@ -35,8 +35,8 @@ pub(crate) fn attribute_or_nothing(
     }
 }
 
-// Whether it is plain by two bytes of its name that a tail has no author. Its first two are in `rsidRDefault`.
-fn lacks_author(tail: &[u8]) -> bool
+/// Whether it is plain by two bytes of its name that a tail has no author. Its first two are in `rsidRDefault`.
+pub(crate) fn lacks_author(tail: &[u8]) -> bool
     ensures { IsTrue result → lacks (codes "author") tail.now ≡ true }
 {
     lacks_pairs(tail, (b't', b'h'), (b't', b'h'))

@@ -68,8 +68,8 @@ fn note_elem(
     note_names(below.search, below.part, elem.tail(), seen)
 }
 
-// Notes what idle elements are that are kept as text. `Err` means out of memory.
-fn look_plain<'t>(
+/// Notes what idle elements are that are kept as text. `Err` means out of memory.
+pub(crate) fn look_plain<'t>(
     known: &mut Known<'t>,
     below: Below<'_, '_, '_>,
     plain: &Plain<'t>,
