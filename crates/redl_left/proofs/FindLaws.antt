@@ -18,7 +18,7 @@ use Rattle.redl_left.specs.declared.row.Value.{Value}
 use Rattle.redl_left.specs.declared.row.Value.TheVariants.{Nothing, Attribute, Author, Made, Shown, Held, Lead}
 use Rattle.redl_left.specs.Finds.{Find, Table, asks, asks_place, asks_when, first_row, found, found_by, found_idle, found_names, found_plain, found_row, found_text, found_value, inner_shown, kind_in, shown_alone, part_of, is_part_name, value_of, value_or_nothing, finds}
 use Rattle.redl_left.specs.Named.{named_of}
-use Rattle.redl_left.specs.Search.{rows_at, table_of}
+use Rattle.redl_left.specs.Search.{is_bare, rows_at, table_of}
 use Rattle.redl_left.specs.declared.search.Search.{Search}
 use Rattle.redl_left.specs.declared.search.Search.TheVariants.{Naming, Asking}
 use Rattle.redl_left.specs.declared.rows.TheConstants.{NAMING, ROWS}
@@ -68,8 +68,9 @@ plain_same Naming part p local tail kids =
     ∙ kids_same part local tail kids (first_row none NAMING [] spaces.W local tail)
 plain_same (Asking by_length named) part p local tail kids =
     let rows = rows_at (map (λ own. own.items) by_length.items) ROWS (length local) in
-    ap (found_row part spaces.W local tail kids) (row_same (named_of named) rows p [] local tail)
-    ∙ kids_same part local tail kids (first_row (named_of named) rows [] spaces.W local tail)
+    let unless_bare : Option Row → Option Row = λ row. if is_bare local tail then None else row in
+    ap (λ (row : Option Row). found_row part spaces.W local tail kids (unless_bare row)) (row_same (named_of named) rows p [] local tail)
+    ∙ kids_same part local tail kids (unless_bare (first_row (named_of named) rows [] spaces.W local tail))
 
 -- the row that asks is the first one
 pub row_here : (named : Fact → List ℕ → Bool) (rows : List Row) (i : ℕ) (d : Row) (parent : List ℕ) (space : Space) (local tail : List ℕ) → i < length rows

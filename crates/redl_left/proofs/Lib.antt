@@ -6,5 +6,6 @@ pub mod AttributeLaws
 pub mod NamingLaws
 pub mod RowLaws
 pub mod PieceLaws
+pub mod BareLaws
 pub mod AlikeLaws
 mod Worked

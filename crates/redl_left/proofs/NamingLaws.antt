@@ -52,7 +52,8 @@ none fact value = false
 abbrev author_row : Row
 author_row = record { fact = facts.Name; place = AnyWord; when = Always; value = Author }
 
-find_after : (test : Row → Bool) (rows more : List Row) → AllByRecursion (λ row. test row ≡ false) rows → find test (rows ++ more) ≡ find test more
+-- the rows that don't ask are passed over
+pub find_after : (test : Row → Bool) (rows more : List Row) → AllByRecursion (λ row. test row ≡ false) rows → find test (rows ++ more) ≡ find test more
 find_after test [] more each = refl
 find_after test (row ∷ rows) more each = ap (λ (b : Bool). cond b (Some row) (find test (rows ++ more))) each.0 ∙ find_after test rows more each.1
 

@@ -25,7 +25,7 @@ other_length local name n of_n other = by (bytes_eq local name) refl
         absurd (subst T other (yes_eqb lengths))
     by false e = refl
 
-and_none : (a b : Bool) → b ≡ false → (a && b) ≡ false
+pub and_none : (a b : Bool) → b ≡ false → (a && b) ≡ false
 and_none true b e = e
 and_none false b e = refl
 
@@ -53,7 +53,7 @@ module _ (named : Fact → List ℕ → Bool) (parent : List ℕ) (space : Space
   row_none : (row : Row) → may_ask n row ≡ false → asks named parent space local tail row ≡ false
   row_none row never = ap (λ b. b && asks_when named row.when tail) (place_none row.place parent space local n of_n never)
 
-  first-filtered : (rows : List Row) → first_row named (filter (may_ask n) rows) parent space local tail ≡ first_row named rows parent space local tail
+  pub first-filtered : (rows : List Row) → first_row named (filter (may_ask n) rows) parent space local tail ≡ first_row named rows parent space local tail
   first-filtered [] = refl
   first-filtered (row ∷ rows) = by (may_ask n row) refl (first-filtered rows)
     where

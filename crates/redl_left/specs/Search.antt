@@ -1,5 +1,5 @@
 -- What a walk asks of each element, as code keeps it: the rows that may ask for an element are listed by the length of its name.
-use Rattle.std.specs.Prelude.{◌≡◌, ℕ, ◌==◌, List, Bool, true, map, get_or, length, codes}
+use Rattle.std.specs.Prelude.{◌≡◌, ℕ, ◌==◌, ◌&&◌, List, Bool, true, map, get_or, length, codes, None, if◌then◌else◌}
 use Rattle.redl_tree.specs.declared.kinds.Space.{Space}
 use Rattle.redl_left.specs.Finds.{Table, first_row}
 use Rattle.redl_left.specs.Names.{name_text}
@@ -33,10 +33,14 @@ Agree rows n own =
     (named : Fact → List ℕ → Bool) (parent : List ℕ) (space : Space) (local tail : List ℕ) → length local ≡ n
     → first_row named own parent space local tail ≡ first_row named rows parent space local tail
 
+-- an element has a name of one letter and no attribute: no row asks for it
+abbrev pub is_bare : List ℕ → List ℕ → Bool
+is_bare local tail = length tail == 0 && length local == 1
+
 -- what is asked where these rows are listed, and these values are named
 abbrev pub listed_table : List (List Row) → (Fact → List ℕ → Bool) → Table
 listed_table lists named = record {
-  first = λ parent space local tail. first_row named (rows_at lists ROWS (length local)) parent space local tail;
+  first = λ parent space local tail. if is_bare local tail then None else first_row named (rows_at lists ROWS (length local)) parent space local tail;
   by_kind = true;
   named = named;
 }

@@ -10,7 +10,7 @@ ghost use Rattle.redl_left.specs.Finds.{finds, rows_table};
 ghost use Rattle.redl_left.specs.Lines.{naming};
 ghost use Rattle.redl_left.specs.Named.{named_of};
 ghost use Rattle.redl_left.specs.Naming.{lacks_naming};
-ghost use Rattle.redl_left.specs.Search.{Agree, may_ask, rows_at, table_of};
+ghost use Rattle.redl_left.specs.Search.{Agree, is_bare, listed_table, may_ask, rows_at, table_of};
 
 use crate::fact::Fact;
 use crate::find::{Asked, first_row};
@@ -93,9 +93,7 @@ impl<'a> Search<'a> {
     {
         match self {
             Search::Naming => first_naming(alloc, asked),
-            Search::Asking { by_length, named } => {
-                first_row(alloc, named, rows_for(by_length, asked.local.len()), asked)
-            }
+            Search::Asking { by_length, named } => first_listed(alloc, by_length, named, asked),
         }
     }
 
@@ -143,6 +141,30 @@ fn lacks_naming(text: &[u8]) -> bool
         return true;
     }
     lacks_word(text, b"author") && lacks_word(text, b"Reference")
+}
+
+// Whether an element has a name of one letter and no attribute.
+fn is_bare(asked: &Asked<'_>) -> bool
+    ensures { result ≡ is_bare asked.now.local.now asked.now.tail.now }
+{
+    asked.tail.is_empty() && asked.local.len() == 1
+}
+
+// The first row of `ROWS` that asks for an element. `Err` means out of memory.
+fn first_listed<'r>(
+    alloc: Global,
+    by_length: &'r Vec<Vec<Row>>,
+    named: &Named<'_>,
+    asked: &Asked<'_>,
+) -> Result<Option<&'r Row>, AllocError>
+    ensures { IfOk result (λ found. option_copied found
+        ≡ (listed_table (map (λ own. own.items) by_length.now.items) (named_of named.now)).first asked.now.parent.now asked.now.space asked.now.local.now asked.now.tail.now) }
+{
+    // Mostly it is a `p` or an `r` without an attribute.
+    if is_bare(asked) {
+        return Ok(None);
+    }
+    first_row(alloc, named, rows_for(by_length, asked.local.len()), asked)
 }
 
 // The rows of `ROWS` that may ask for an element whose name has `size` bytes.
