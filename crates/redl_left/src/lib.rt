@@ -20,6 +20,7 @@ mod named;
 mod names_told;
 mod notes;
 mod pieces;
+mod quotes;
 mod row;
 mod rows;
 mod search;

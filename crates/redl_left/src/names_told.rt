@@ -11,6 +11,7 @@ ghost use Rattle.redl_left.specs.Search.{table_of};
 ghost use Rattle.redl_left.specs.Seen.{tables_of};
 
 use crate::fact::Fact;
+use crate::quotes::until_quote;
 use crate::search::Search;
 use crate::seen::Seen;
 use crate::told::shown;
@@ -136,12 +137,12 @@ fn passes(search: &Search<'_>, front: &[u8], rest: &[u8]) -> bool
 fn quotes_pass(search: &Search<'_>, tail: &[u8]) -> bool
     ensures { IsTrue result → QuotesPass (table_of search.now) [] tail.now }
 {
-    let (mut front, mut left) = far_until(tail, b'"');
+    let (mut front, mut left) = until_quote(tail);
     while let Some((_, rest)) = left.split_first() {
         if !passes(search, front, rest) {
             return false;
         }
-        (front, left) = far_until(rest, b'"');
+        (front, left) = until_quote(rest);
     }
     true
 }

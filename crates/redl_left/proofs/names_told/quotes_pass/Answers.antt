@@ -7,10 +7,10 @@ use Rattle.redl_left.proofs.FrontLaws.{quotes_found}
 use Rattle.redl_left.proofs.names_told.quotes_pass.Goals as goal
 
 pub loop-rest-init : goal.loop-rest-init
-loop-rest-init c = ([], λ pass. quotes_found (table_of c.args.search.now) [] c.args.tail.now c.far_until.result.0.now c.far_until.result.1.now c.far_until.ensures.front c.far_until.ensures.rest pass)
+loop-rest-init c = ([], λ pass. quotes_found (table_of c.args.search.now) [] c.args.tail.now c.until_quote.result.0.now c.until_quote.result.1.now c.until_quote.ensures.front c.until_quote.ensures.rest pass)
 
 pub loop-rest-smaller : goal.loop-rest-smaller
-loop-rest-smaller c = omega (arith, ap length c.in-Some.ensures.cases.0, ap length c.far_until-in-Some.ensures.rest, after_fits 34 c.in-Some.rest.now)
+loop-rest-smaller c = omega (arith, ap length c.in-Some.ensures.cases.0, ap length c.until_quote-in-Some.ensures.rest, after_fits 34 c.in-Some.rest.now)
 
 pub loop-rest-preserved : goal.loop-rest-preserved
 loop-rest-preserved c =
@@ -19,7 +19,7 @@ loop-rest-preserved c =
     let before = back c.loop-rest.front.now so_far.0 in
     let quote = c.in-Some.field-0-0.now in
     let rest = c.in-Some.rest.now in
-    let found = c.far_until-in-Some in (
+    let found = c.until_quote-in-Some in (
       quote ∷ before,
       λ pass.
           let later : QuotesPass table (quote ∷ before) rest =
