@@ -1,5 +1,5 @@
 -- A find names its own value alone, so lines that name the same values do so after it.
-use Rattle.std.proofs.Common.{◌≡◌, ◌∙◌, refl, sym, ap, subst, ℕ, zero, suc, List, [], ◌∷◌, ◌++◌, Bool, true, false, true≢false, ◌&&◌, ◌||◌, ◌-◌, length, get_or, set, map, bytes_eq, if◌then◌else◌, Option, None, Some}
+use Rattle.std.proofs.Common.{◌≡◌, ◌∙◌, refl, sym, ap, ℕ, zero, suc, List, [], ◌∷◌, ◌++◌, Bool, true, false, true≢false, ◌||◌, ◌-◌, length, get_or, set, map, bytes_eq, if◌then◌else◌, Option, None, Some}
 use Rattle.std.specs.Prelude.{take}
 use Rattle.std.specs.List.{list_any, slice_get}
 use Rattle.std.proofs.Math.Bool.{or-false}

@@ -256,7 +256,7 @@ nil_by_length (b ∷ bs) h = absurd (omega (arith, eqb-true (length (b ∷ bs)) 
 told_none : (table : Table) (part text : List ℕ) → is_author table text ≡ false → found_told table part text ≡ []
 told_none table part text h = ap (λ b. let found : List Find = (if b then record { fact = fact.Name; part = part; value = text } ∷ [] else []) in found) h
 
-name_none : (table : Table) (part : List ℕ) (attribute : Name × List ℕ) → (attribute.0.local ≡ codes "author") ⊎ BeginsNone table attribute.1 → found_name table part attribute ≡ []
+pub name_none : (table : Table) (part : List ℕ) (attribute : Name × List ℕ) → (attribute.0.local ≡ codes "author") ⊎ BeginsNone table attribute.1 → found_name table part attribute ≡ []
 name_none table part attribute (inl e) = ap (λ (local : List ℕ). if bytes_eq local (codes "author") then [] else found_told table part (decoded_value attribute.1)) e
 name_none table part attribute (inr h) = if_none (bytes_eq attribute.0.local (codes "author")) (found_told table part (decoded_value attribute.1)) (told_none table part (decoded_value attribute.1) (read_none table attribute.1 h))
 

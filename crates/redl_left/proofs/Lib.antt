@@ -8,4 +8,5 @@ pub mod RowLaws
 pub mod PieceLaws
 pub mod BareLaws
 pub mod AlikeLaws
+pub mod UsualLaws
 mod Worked

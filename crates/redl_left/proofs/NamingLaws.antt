@@ -1,12 +1,14 @@
 -- A kept text in which neither `author` nor `Reference` is holds nothing that names a comment, a note or an author.
-use Rattle.std.proofs.Common.{◌≡◌, ◌∙◌, refl, sym, ap, subst, List, ℕ, [], ◌∷◌, ◌++◌, Bool, true, false, true≢false, cond, bytes_eq, codes, find, Option, None, Some, ◌<◌, ◌≤◌, length, arith, lit≤}
+use Rattle.std.proofs.Common.{◌≡◌, ◌∙◌, refl, sym, ap, subst, List, ℕ, [], ◌∷◌, ◌++◌, Bool, true, false, true≢false, cond, bytes_eq, codes, find, is_some, not, ◌&&◌, Option, None, Some, ◌<◌, ◌≤◌, length, arith, lit≤, append-nil}
 use Rattle.std.specs.Prelude.{take, drop}
 use Rattle.std.specs.List.{AllByRecursion}
 use Rattle.std.proofs.lemmas.Bool.{and_parts}
+use Rattle.redl_grammar.specs.ScanTags.{attribute_in}
 use Rattle.redl_markup.specs.Attributes.{attributes_of}
 use Rattle.redl_pairs.proofs.ElementLaws.{lacking}
 use Rattle.redl_pairs.proofs.WordLaws.{lacks-rest}
 use Rattle.redl_reading.specs.Lists.{lacks}
+use Rattle.redl_stamp.specs.Attribute.{attribute_value}
 use Rattle.redl_tree.specs.Model.IdleTexts.{is_idle_text, idle_nodes}
 use Rattle.redl_tree.specs.Model.Laid.{AreLaid}
 use Rattle.redl_tree.specs.Model.Nodes.{Tag, Nodes, no_nodes, bytes, element}
@@ -19,7 +21,7 @@ use Rattle.redl_tree.proofs.Idle.Items.{laid_nodes, nodes_are_idle}
 use Rattle.redl_tree.proofs.Idle.Tags.{Idle, idle_parts}
 use Rattle.redl_tree.proofs.Reading.FoldLaws.{always_laid}
 use Rattle.redl_tree.proofs.Reading.SameBytes.{same_bytes}
-use Rattle.redl_left.specs.Finds.{Find, asks, first_row, found, found_names, found_row, found_value, finds, part_of, value_or_nothing}
+use Rattle.redl_left.specs.Finds.{Find, asks, first_row, is_normal, found, found_names, found_row, found_value, finds, part_of, value_or_nothing}
 use Rattle.redl_left.specs.Lines.{naming}
 use Rattle.redl_left.specs.Naming.{lacks_naming}
 use Rattle.redl_left.specs.declared.fact.Fact.{Fact}
@@ -45,11 +47,15 @@ not_idle in_run name local idle other = by (bytes_eq local name) refl
 
 -- ---- rows
 
+none_too : (a b : Bool) → b ≡ false → (a && b) ≡ false
+none_too true b e = e
+none_too false b e = refl
+
 abbrev none : Fact → List ℕ → Bool
 none fact value = false
 
 -- the row of authors, which asks for each element of W that none before it asks for
-abbrev author_row : Row
+abbrev pub author_row : Row
 author_row = record { fact = facts.Name; place = AnyWord; when = Always; value = Author }
 
 -- the rows that don't ask are passed over
@@ -91,7 +97,31 @@ short_author parent local tail short =
       ),
     )
 
+-- an empty tail has no value
+no_attribute : (name : List ℕ) → attribute_value [] name ≡ None
+unfolding attributes_of attribute_in
+no_attribute name = refl
+
+-- without an attribute no other row asks for an element of W
+empty_author : (parent local : List ℕ) → first_row none NAMING parent spaces.W local [] ≡ Some author_row
+empty_author parent local =
+    let no_id : is_some (attribute_value [] (codes "id")) ≡ false = ap (λ (o : Option (List ℕ)). is_some o) (no_attribute (codes "id")) in
+    let no_type : not (is_normal (attribute_value [] (codes "type"))) ≡ false = ap (λ (o : Option (List ℕ)). not (is_normal o)) (no_attribute (codes "type")) in
+    find_after (asks none parent spaces.W local []) (take 5 NAMING) (drop 5 NAMING)
+    (none_too _ _ no_id, (none_too _ _ no_id, (none_too _ _ no_id, (none_too _ _ no_type, (none_too _ _ no_type, tt)))))
+
 -- ---- nodes
+
+-- an element of W with a short name names its author alone
+pub short_names_author : (part parent : List ℕ) (tag : Tag) (kids : Nodes) → tag.space ≡ spaces.W → length tag.local < 7
+    → found naming part parent tag kids ≡ found_value part author_row (value_or_nothing (attribute_value tag.tail (codes "author")))
+short_names_author part parent tag kids space short =
+    let names = found_names naming part tag.tail in
+    let own = found_value part author_row (value_or_nothing (attribute_value tag.tail (codes "author"))) in
+    ap (λ (s : Space). found_row part s tag.local tag.tail kids (first_row none NAMING parent s tag.local tag.tail) ++ names) space
+    ∙ ap (λ (o : Option Row). found_row part spaces.W tag.local tag.tail kids o ++ names) (short_author parent tag.local tag.tail short)
+    ∙ ap (λ (f : List Find). own ++ f) (none_among naming (λ value. refl) part (attributes_of tag.tail))
+    ∙ append-nil own
 
 -- an element of W whose row is that of authors, and that has none, names nothing
 nobody : (part parent : List ℕ) (tag : Tag) (kids : Nodes) → tag.space ≡ spaces.W → first_row none NAMING parent spaces.W tag.local tag.tail ≡ Some author_row
@@ -102,6 +132,11 @@ nobody part parent tag kids space row lacking =
     ∙ ap (λ (o : Option Row). found_row part spaces.W tag.local tag.tail kids o ++ names) row
     ∙ ap (λ (o : Option (List ℕ)). found_value part author_row (value_or_nothing o) ++ names) (no_value (codes "author") tag.tail lacking)
     ∙ none_among naming (λ value. refl) part (attributes_of tag.tail)
+
+-- so does one without an attribute
+pub empty_names_nothing : (part parent : List ℕ) (tag : Tag) (kids : Nodes) → tag.space ≡ spaces.W → tag.tail ≡ [] → found naming part parent tag kids ≡ []
+empty_names_nothing part parent tag kids space empty =
+    nobody part parent tag kids space (ap (λ (tail : List ℕ). first_row none NAMING parent spaces.W tag.local tail) empty ∙ empty_author parent tag.local) (ap (lacks (codes "author")) empty)
 
 -- so does one with a short name
 pub short_names_nothing : (part parent : List ℕ) (tag : Tag) (kids : Nodes) → tag.space ≡ spaces.W → length tag.local < 7 → lacks (codes "author") tag.tail ≡ true

@@ -1,5 +1,5 @@
 -- A row that asks for an element is among those that may ask for a name of its length.
-use Rattle.std.proofs.Common.{◌≡◌, ◌∙◌, refl, sym, ap, subst, ℕ, zero, suc, ◌+◌, ◌==◌, cond, T, List, [], ◌∷◌, ◌++◌, Bool, true, false, true≢false, ◌&&◌, length, get_or, arith, bytes_eq, codes, Option, Some}
+use Rattle.std.proofs.Common.{◌≡◌, ◌∙◌, refl, sym, ap, subst, ℕ, zero, suc, ◌==◌, cond, T, List, [], ◌∷◌, ◌++◌, Bool, true, false, true≢false, ◌&&◌, length, get_or, arith, bytes_eq, codes, Option, Some}
 use Rattle.std.specs.Prelude.{filter}
 use Rattle.std.proofs.Math.Facts.{yes_eqb}
 use Rattle.redl_tree.specs.Roles.Names.{is_w}

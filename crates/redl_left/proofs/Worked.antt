@@ -15,6 +15,7 @@ use Rattle.redl_left.specs.declared.row.Row.{Row}
 use Rattle.redl_left.specs.declared.line.Line.{Line}
 use Rattle.redl_left.specs.Finds.{Find, Table, rows_table, finds, found, lead_from}
 use Rattle.redl_left.specs.Lines.{noted}
+use Rattle.redl_left.specs.Search.{is_bare}
 
 part : List ℕ
 part = codes "/a"
@@ -67,3 +68,13 @@ of_package = refl
 
 rooted : lead_from (codes "/word/_rels/document.xml.rels") (codes "/a.bin") ≡ codes "/a.bin"
 rooted = refl
+
+-- an element of one letter without an attribute, one with an attribute, and one of two letters
+bare : is_bare (codes "p") [] ≡ true
+bare = refl
+
+with_attribute : is_bare (codes "p") (codes " rsidR='0'") ≡ false
+with_attribute = refl
+
+of_two : is_bare (codes "tr") [] ≡ false
+of_two = refl

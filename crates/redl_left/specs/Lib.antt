@@ -10,3 +10,4 @@ pub mod Search
 pub mod Seen
 pub mod Pieces
 pub mod Known
+pub mod Usual

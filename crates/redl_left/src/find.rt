@@ -8,12 +8,13 @@ ghost use Rattle.redl_reading.specs.Lists.{begins};
 ghost use Rattle.redl_stamp.specs.Attribute.{attribute_value};
 ghost use Rattle.redl_left.specs.Names.{name_text};
 ghost use Rattle.redl_left.specs.Named.{named_of};
-ghost use Rattle.redl_left.specs.Finds.{asks, asks_place, asks_when, begins_value, ends_value, is_normal, names_it, first_row, is_off, is_part_name, is_value, member_fact, content_fact, mark_fact, prop_fact};
+ghost use Rattle.redl_left.specs.Finds.{asks, asks_place, asks_when, begins_value, ends_value, has_front_name, is_normal, names_it, first_row, is_off, is_part_name, is_value, member_fact, content_fact, mark_fact, prop_fact};
 
 use crate::fact::Fact;
 use crate::name::Name;
 use crate::named::Named;
 use crate::row::{Row, When, Where};
+use crate::usual::behind_ids;
 use redl_markup::next_attribute;
 use redl_reading::skip;
 use redl_stamp::{attribute, has_attribute};
@@ -113,11 +114,27 @@ fn has_front(alloc: Global, tail: &[u8], name: Name, front: Name) -> Result<bool
     }
 }
 
+// The tail, or the rest of it behind the ids of a paragraph where no name of theirs begins so.
+fn past_ids<'t>(tail: &'t [u8], front: &[u8]) -> &'t [u8]
+    ensures { has_front_name result.now front.now ≡ has_front_name tail.now front.now }
+{
+    if begins(b"paraId", front) {
+        return tail;
+    }
+    if begins(b"textId", front) {
+        return tail;
+    }
+    match behind_ids(tail) {
+        Some(rest) => rest,
+        None => tail,
+    }
+}
+
 // Whether a tag with this tail has an attribute whose name begins so.
 fn has_front_name(tail: &[u8], front: &[u8]) -> bool
     ensures { result ≡ list_any (λ attribute. begins front.now attribute.0.local) (attributes_of tail.now) }
 {
-    let mut left = tail;
+    let mut left = past_ids(tail, front);
     while let Some((attribute, rest)) = next_attribute(left) {
         if begins(attribute.name.local, front) {
             return true;

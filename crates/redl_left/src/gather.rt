@@ -1,13 +1,16 @@
 //! The walk that finds what names comments, notes and authors. An author who is named already is not noted again.
 
-ghost use Rattle.std.specs.Prelude.{◌≡◌, [], List, ℕ, IsTrue, OnOk};
+ghost use Rattle.std.specs.Prelude.{◌≡◌, [], List, ℕ, true, codes, IsTrue, OnOk};
+ghost use Rattle.redl_stamp.specs.Attribute.{attribute_value};
 ghost use Rattle.redl_tree.specs.Model.IdleTexts.{idle_nodes};
 ghost use Rattle.redl_tree.specs.Model.Nodes.{no_nodes, in_front};
 ghost use Rattle.redl_tree.specs.Model.View.{nodes_of, item_of, tag_of, kids_of};
 ghost use Rattle.redl_left.specs.Alike.{NameAlike};
-ghost use Rattle.redl_left.specs.Finds.{element_finds, finds, found, found_plain, found_value, part_of};
+ghost use Rattle.redl_left.specs.declared.fact.Fact.TheVariants.{Name};
+ghost use Rattle.redl_left.specs.Finds.{element_finds, finds, found, found_plain, found_value, part_of, value_or_nothing};
 ghost use Rattle.redl_left.specs.Known.{AreKnown};
 ghost use Rattle.redl_left.specs.Lines.{naming, noted_all};
+ghost use Rattle.redl_left.specs.Named.{named_in};
 ghost use Rattle.redl_left.specs.Seen.{tables_of};
 
 use crate::element::{Below, note_value};
@@ -18,7 +21,9 @@ use crate::search::{SHORTEST, Search, first_naming};
 use crate::seen::Seen;
 use crate::tags::Known;
 use crate::told::{attribute_or_nothing, lacks_author, value_of};
+use crate::usual::usual_author;
 use crate::walk::look_plain;
+use redl_markup::is_literal;
 use redl_tree::{Elem, Node, Plain, Space};
 use std::alloc::AllocError;
 
@@ -52,7 +57,17 @@ fn gather_plain(
     }
 }
 
-// Whether it is plain that an element names nothing: its name is too short for a reference, and its tail has no author.
+// Whether it is plain that an element names nothing, since it has no attribute.
+fn has_no_attribute(elem: &Elem) -> bool
+    ensures { IsTrue result → (part parent : List ℕ) → found naming part parent (tag_of elem.now) (kids_of elem.now) ≡ [] }
+{
+    match elem.space() {
+        Space::W => elem.tail().is_empty(),
+        _ => false,
+    }
+}
+
+// The same, since its name is too short for a reference, and its tail has no author.
 fn names_nothing(elem: &Elem) -> bool
     ensures { IsTrue result → (part parent : List ℕ) → found naming part parent (tag_of elem.now) (kids_of elem.now) ≡ [] }
 {
@@ -62,10 +77,37 @@ fn names_nothing(elem: &Elem) -> bool
     }
 }
 
+// Whether it is plain that the author of a tag with this tail is named already.
+fn has_known_author(tail: &[u8], seen: &Seen) -> bool
+    ensures { IsTrue result → named_in (tables_of seen.now) Name (value_or_nothing (attribute_value tail.now (codes "author"))) ≡ true }
+{
+    match usual_author(tail) {
+        Some(author) => is_literal(author) && seen.names(author),
+        None => false,
+    }
+}
+
+// Whether it is plain that an element names nothing but an author who is named already.
+fn names_known(elem: &Elem, seen: &Seen) -> bool
+    ensures { IsTrue result → (part parent : List ℕ)
+        → NameAlike (tables_of seen.now) (noted_all (tables_of seen.now) (found naming part parent (tag_of elem.now) (kids_of elem.now))) }
+{
+    match elem.space() {
+        Space::W => elem.local().len() < SHORTEST && has_known_author(elem.tail(), seen),
+        _ => false,
+    }
+}
+
 // Notes what an element names, in a parent with this local name. `Err` means out of memory.
 fn gather_own(part: &[u8], parent: &[u8], elem: &Elem, seen: &mut Seen) -> Result<(), AllocError>
     ensures { OnOk result (NameAlike (tables_of seen.new) (noted_all (tables_of seen.old) (found naming part.now parent.now (tag_of elem.now) (kids_of elem.now)))) }
 {
+    if has_no_attribute(elem) {
+        return Ok(());
+    }
+    if names_known(elem, seen) {
+        return Ok(());
+    }
     if names_nothing(elem) {
         return Ok(());
     }

@@ -1,16 +1,17 @@
 //! Where the name of an author stands as a text or as a value.
 
 ghost use Rattle.std.specs.Prelude.{◌≡◌, [], ℕ, List, false, IfSome, IsTrue, OnOk};
-ghost use Rattle.redl_markup.specs.Decoding.{decoded_value, is_literal};
+ghost use Rattle.redl_markup.specs.Decoding.{decoded_value};
 ghost use Rattle.redl_markup.specs.Views.{attribute_view};
 ghost use Rattle.redl_shown.specs.Shown.{shown};
 ghost use Rattle.redl_left.specs.Finds.{found_among, found_name, found_names, found_text, found_told, is_author};
-ghost use Rattle.redl_left.specs.Fronts.{back, BeginsNone, NamesAuthor, Passes, QuotesPass};
+ghost use Rattle.redl_left.specs.Fronts.{back, NamesAuthor, Passes, QuotesPass};
 ghost use Rattle.redl_left.specs.Lines.{noted_all};
 ghost use Rattle.redl_left.specs.Search.{table_of};
 ghost use Rattle.redl_left.specs.Seen.{tables_of};
 
 use crate::fact::Fact;
+use crate::names_usual::{begins_none, is_usual};
 use crate::quotes::until_quote;
 use crate::search::Search;
 use crate::seen::Seen;
@@ -102,23 +103,6 @@ pub(crate) fn note_text(
     note_shown(search, part, bytes, seen)
 }
 
-// Whether a byte of a value is read as it is.
-fn is_literal_byte(byte: u8) -> bool
-    ensures { result ≡ is_literal byte }
-{
-    byte != b'&' && byte != b'\t' && byte != b'\n' && byte != b'\r'
-}
-
-// Whether it is plain by their first byte that no value that begins with bytes is the name of an author.
-fn begins_none(search: &Search<'_>, bytes: &[u8]) -> bool
-    ensures { IsTrue result → BeginsNone (table_of search.now) bytes.now }
-{
-    match bytes.split_first() {
-        Some((first, _)) => is_literal_byte(*first) && search.none_begins(Fact::Name, *first),
-        None => true,
-    }
-}
-
 // Whether bytes before a quote end as an `author` with a prefix and its `=`.
 fn names_author(front: &[u8]) -> bool
     ensures { IsTrue result → (before : List ℕ) → NamesAuthor (back front.now before) }
@@ -152,6 +136,9 @@ fn names_none(search: &Search<'_>, tail: &[u8]) -> bool
     ensures { IsTrue result → (part : List ℕ) → found_names (table_of search.now) part tail.now ≡ [] }
 {
     if tail.is_empty() {
+        return true;
+    }
+    if is_usual(search, tail) {
         return true;
     }
     far_until(tail, b'\'').1.is_empty() && quotes_pass(search, tail)
@@ -213,6 +200,7 @@ pub(crate) fn has_no_names(search: &Search<'_>, tail: &[u8]) -> bool
 }
 
 /// Notes the values of a tail that are names of authors. `Err` means out of memory.
+#[inline(always)]
 pub(crate) fn note_names(
     search: &Search<'_>,
     part: &[u8],
@@ -221,7 +209,10 @@ pub(crate) fn note_names(
 ) -> Result<(), AllocError>
     ensures { OnOk result (tables_of seen.new ≡ noted_all (tables_of seen.old) (found_names (table_of search.now) part.now tail.now)) }
 {
-    // Mostly the attributes need not be read.
+    // Mostly there are no attributes, or they need not be read.
+    if tail.is_empty() {
+        return Ok(());
+    }
     if has_no_names(search, tail) {
         return Ok(());
     }

@@ -11,7 +11,6 @@ use Rattle.redl_tree.specs.declared.kinds.Space.{Space}
 use Rattle.redl_left.specs.Finds.{Find, finds, found, element_finds, is_part_name, value_or_nothing}
 use Rattle.redl_left.specs.Lines.{naming, noted_all}
 use Rattle.redl_left.specs.Seen.{tables_of}
-use Rattle.redl_left.specs.declared.line.Line.{Line}
 use Rattle.redl_left.proofs.AlikeLaws.{alike, alike_all, alike_then}
 use Rattle.redl_left.proofs.FindLaws.{finds-⊕}
 use Rattle.redl_left.proofs.NameLaws.{none_told}

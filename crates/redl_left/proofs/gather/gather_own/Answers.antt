@@ -33,3 +33,12 @@ returns-then-names_nothing c =
     let old = tables_of c.args.seen.now in
     let found_here = found naming c.args.part.now c.args.parent.now (tag_of c.args.elem.now) (kids_of c.args.elem.now) in
     alike old (noted_all old found_here) (ap (noted_all old) (sym (c.names_nothing.ensures c.if-names_nothing.true c.args.part.now c.args.parent.now)))
+
+pub returns-then-names_known : goal.returns-then-names_known
+returns-then-names_known c = c.names_known.ensures c.if-names_known.true c.args.part.now c.args.parent.now
+
+pub returns-then-has_no_attribute : goal.returns-then-has_no_attribute
+returns-then-has_no_attribute c =
+    let old = tables_of c.args.seen.now in
+    let found_here = found naming c.args.part.now c.args.parent.now (tag_of c.args.elem.now) (kids_of c.args.elem.now) in
+    alike old (noted_all old found_here) (ap (noted_all old) (sym (c.has_no_attribute.ensures c.if-has_no_attribute.true c.args.part.now c.args.parent.now)))
