@@ -1,5 +1,5 @@
 -- Marks among nodes one after the other, and what the walk over kept text counts of them.
-use Rattle.std.proofs.Common.{◌≡◌, ◌∙◌, refl, sym, ap, ℕ, ◌+◌, List, [], ◌∷◌, ◌++◌, length, length-append, append-nil, Bool, true, false, ◌&&◌, arith, if◌then◌else◌}
+use Rattle.std.proofs.Common.{◌≡◌, ◌∙◌, refl, ap, ℕ, ◌+◌, List, [], ◌++◌, length, length-append, append-nil, Bool, true, false, ◌&&◌, arith}
 use Rattle.redl_tree.specs.Model.Nodes.{Tag, Nodes, no_nodes, bytes, element, ◌⊕◌, Item, bytes_item, element_item, idle_item, in_front}
 use Rattle.redl_tree.specs.Model.IdleTexts.{idle_nodes}
 use Rattle.redl_tree.specs.Roles.Idle.{is_idle_in, is_plain_kind}

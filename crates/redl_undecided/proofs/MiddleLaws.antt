@@ -18,7 +18,7 @@ use Rattle.redl_tree.proofs.Idle.Tags.{idle_parts}
 use Rattle.redl_tree.proofs.Reading.FoldLaws.{always_laid}
 use Rattle.redl_tree.proofs.Reading.SameBytes.{same_bytes}
 use Rattle.redl_undecided.specs.Middles.{lacks_middles}
-use Rattle.redl_undecided.specs.Undecided.{is_mark_name, is_undecided, mark_names, one_if, undecided_marks}
+use Rattle.redl_undecided.specs.Undecided.{is_mark_name, mark_names, one_if, undecided_marks}
 use Rattle.redl_undecided.proofs.MarkLaws.{own_idle}
 
 -- ---- names

@@ -14,33 +14,44 @@ use std::convert::Infallible;
 
 /// How many marks of changes among nodes, at every depth, are in no revision, or 18446744073709551615 where there are more. The
 /// members of revisions have their kinds. It takes no memory.
-#[cycle(count)]
 pub fn count_undecided(nodes: &[Node]) -> u64
     ensures { result ≡ min (undecided_marks (nodes_of nodes.now)) (2 ^ 64 - 1) }
 {
-    let mut total: u64 = 0;
+    add_nodes(0, nodes)
+}
+
+// A number, and how many marks are among nodes, at every depth.
+#[cycle(count)]
+fn add_nodes(count: u64, nodes: &[Node]) -> u64
+    ensures { result ≡ min (count + undecided_marks (nodes_of nodes.now)) (2 ^ 64 - 1) }
+{
+    let mut total = count;
     for node in nodes {
-        total = total.saturating_add(count_node(node));
+        total = add_node(total, node);
     }
     total
 }
 
 #[cycle(count)]
-fn count_node(node: &Node) -> u64
-    ensures { result ≡ min (undecided_marks (in_front (item_of node.now) no_nodes)) (2 ^ 64 - 1) }
+fn add_node(count: u64, node: &Node) -> u64
+    ensures { result ≡ min (count + undecided_marks (in_front (item_of node.now) no_nodes)) (2 ^ 64 - 1) }
 {
     match node {
-        Node::Elem(elem) => count_undecided(elem.kids()).saturating_add(count_own(elem)),
-        Node::Bytes(_) => 0,
-        Node::Plain(plain) => add_plain(0, plain),
+        Node::Elem(elem) => add_nodes(add_own(count, elem), elem.kids()),
+        Node::Bytes(_) => count,
+        Node::Plain(plain) => add_plain(count, plain),
     }
 }
 
-// 1 where the element itself is such a mark, and else 0.
-fn count_own(elem: &Elem) -> u64
-    ensures { result ≡ one_if (is_undecided (tag_of elem.now)) }
+// A number, and 1 more where the element itself is such a mark.
+fn add_own(count: u64, elem: &Elem) -> u64
+    ensures { result ≡ min (count + one_if (is_undecided (tag_of elem.now))) (2 ^ 64 - 1) }
 {
-    if is_undecided(elem) { 1 } else { 0 }
+    if is_undecided(elem) {
+        count.saturating_add(1)
+    } else {
+        count
+    }
 }
 
 fn is_undecided(elem: &Elem) -> bool
@@ -52,7 +63,9 @@ fn is_undecided(elem: &Elem) -> bool
     }
 }
 
-// A number, and how many of the idle elements are such marks that a list keeps as text.
+// A number, and how many of the idle elements are such marks that a list keeps as text. (In a function of its own, so that the walk
+// keeps little at each element.)
+#[inline(never)]
 fn add_plain(count: u64, plain: &Plain) -> u64
     ensures { result ≡ min (count + undecided_marks (idle_nodes plain.now)) (2 ^ 64 - 1) }
 {

@@ -4,6 +4,7 @@ ghost use Rattle.std.specs.Prelude.{◌≡◌};
 ghost use Rattle.redl_undecided.specs.Undecided.{is_mark_name};
 
 /// Whether an element of WordprocessingML with this local name marks a change, where it is in a revision or not.
+#[inline(always)]
 pub fn is_mark_name(name: &[u8]) -> bool
     ensures { result ≡ is_mark_name name.now }
 {
