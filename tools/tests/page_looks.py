@@ -163,10 +163,10 @@ CONTROLS = "button, input, select, a, summary, [tabindex], main, aside"
 # Signs in the document that stand for a change, and what a screen reader is told of each.
 SIGNS = [
     (".props[data-revision='1']", "Change 1: text formatted (hidden: not set \u2192 on) by Cara Lee, 2026-11-04"),
-    (".props[data-revision='9']", "Change 9: row formatted (row stays on one page: not set \u2192 on) by Cara Lee, 2026-11-04"),
-    (".row[data-revision='13']", "Change 13: row deleted by Bob Hay, 2026-11-03"),
-    (".mark[data-revision='14']", "Change 14: paragraph end deleted by Bob Hay, 2026-11-03"),
-    (".cell[data-revision='27']", "Change 27: cell deleted by Bob Hay, 2026-11-03"),
+    (".props[data-revision='9']", "Change 9, before 1.1: row formatted (row stays on one page: not set \u2192 on) by Cara Lee, 2026-11-04"),
+    (".row[data-revision='13']", "Change 13, before 1.1: row deleted by Bob Hay, 2026-11-03"),
+    (".mark[data-revision='14']", "Change 14, before 1.1: paragraph end deleted by Bob Hay, 2026-11-03"),
+    (".cell[data-revision='27']", "Change 27, before 1.1: cell deleted by Bob Hay, 2026-11-03"),
 ]
 # The changes in the text: whether each can have the keyboard, and what is told of it.
 REACHED = "return [...document.querySelectorAll('main :is(ins, del).text')].map((it) => (it.focus(), [document.activeElement === it, it.title]))"
@@ -224,7 +224,7 @@ def without_scripts(driven):
     long = os.path.join(driven.folder, "long.xml")
     with open(long, "w", encoding="utf-8") as out:
         out.write(in_package(body))
-    for name, journals, words in [("contract.xml", REVIEWERS, "Ann Gray: accepted Bob Hay: rejected"), (long, [], "")]:
+    for name, journals, words in [("contract.xml", REVIEWERS, "3.1 Ann Gray: accepted Bob Hay: rejected"), (long, [], "")]:
         whole = page_of(name, journals).decode().replace("&", "&amp;").replace('"', "&quot;")
         seen = Seen(driven, (FRAME % whole).encode())
         said, row, has_end = seen.run(SEEN_THERE)
