@@ -43,7 +43,7 @@ def scrub(words, call, find_redline):
     except (Fault, CallFailed) as fault:
         call.say("nothing is written, since the result is not what it should be: %s" % fault)
         return FAULTY, None
-    tell(call, made, left)
+    tell(call, call.called(document), made, left)
     return 0, made.data
 
 
@@ -107,9 +107,8 @@ def is_same_but_for_notes(before, after, notes):
     return at == len(after)
 
 
-def tell(call, made, left):
-    """Says what went, what stays since the document shows it, and what else is left."""
-    name = call.called(call.words[1])
+def tell(call, name, made, left):
+    """Says what went of the document with this name, what stays since the document shows it, and what else is left."""
     went = ["%s %d" % (one, made.counts[one]) for one in NAMES if made.counts.get(one)]
     call.say("%s: took out %s" % (name, ", ".join(went) or "nothing, since there was nothing to take"))
     for one, value in made.kept:
