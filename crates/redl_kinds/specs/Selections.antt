@@ -19,6 +19,8 @@ pub data Selection : Type 0 where
   kind : RevKind → Selection
   -- the revisions whose kind is in this group
   group : Group → Selection
+  -- the revisions of the edits that these items list
+  edits : List Listed → Selection
 
 -- an item of a list has the number
 abbrev pub has_number : ℕ → Listed → Bool

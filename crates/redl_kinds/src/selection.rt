@@ -21,6 +21,8 @@ pub enum Selection {
     Kind(RevKind),
     /// The revisions whose kind is in this group.
     Group(Group),
+    /// The revisions of the edits whose numbers these items list (`redl_edits`), in any order, repeats included.
+    Edits(Vec<Listed>),
 }
 
 /// An item in a list of numbers.
