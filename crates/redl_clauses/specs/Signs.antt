@@ -4,7 +4,7 @@ use Rattle.std.specs.List.{list_any}
 use Rattle.redl_tree.specs.Model.Nodes.{Tag, Nodes, no_nodes, bytes, element}
 use Rattle.redl_tree.specs.Roles.Names.{is_w}
 use Rattle.redl_tree.specs.Roles.Places.{is_quiet}
-use Rattle.redl_excerpts.specs.Said.{said}
+use Rattle.redl_said.specs.Said.{said}
 use Rattle.redl_numbering.specs.Counts.{is_filled}
 
 -- A paragraph inside is one by its end, so none is looked for in it.

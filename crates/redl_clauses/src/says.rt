@@ -1,13 +1,13 @@
 //! Whether nodes say or show anything.
 
 ghost use Rattle.std.specs.Prelude.{◌≡◌, IfOk, false, true};
-ghost use Rattle.redl_excerpts.specs.Said.{said};
+ghost use Rattle.redl_said.specs.Said.{said};
 ghost use Rattle.redl_numbering.specs.Counts.{is_filled};
 ghost use Rattle.redl_tree.specs.Model.View.{nodes_of};
 ghost use Rattle.redl_clauses.specs.Signs.{shows_something};
 
 use crate::signs::has_sign;
-use redl_excerpts::{Ear, tell_nodes};
+use redl_said::{Ear, tell_nodes};
 use redl_tree::Node;
 use std::alloc::AllocError;
 

@@ -7,7 +7,7 @@ use Rattle.redl_comments.specs.declared.state.State.{State}
 use Rattle.redl_tree.specs.Model.Nodes.{◌⊕◌}
 use Rattle.redl_tree.proofs.Model.Build.{opened, opened_with, closed, run}
 use Rattle.redl_markup.specs.Attributes.{attributes_of}
-use Rattle.redl_excerpts.specs.Phrases.{heard_byte, begun, paused}
+use Rattle.redl_said.specs.Phrases.{heard_byte, begun, paused}
 use Rattle.redl_grammar.specs.Characters.{is_name_start, is_name_character, is_space}
 use Rattle.redl_grammar.specs.Names.{may_start, may_follow}
 use Rattle.redl_grammar.specs.ScanNames.{name_at, word_at, char_at, name_end, name_step}

@@ -2,8 +2,8 @@
 -- parts they are in is our own rule).
 use Rattle.std.specs.Prelude.{ℕ, true, false, Bool, List, [], map, filter, codes, Option, Some, None, option_and_then, if◌then◌else◌}
 use Rattle.std.specs.List.{flat_map}
-use Rattle.redl_excerpts.specs.Phrases.{heard, kept_text, nothing_heard}
-use Rattle.redl_excerpts.specs.Said.{said}
+use Rattle.redl_said.specs.Phrases.{heard, kept_text, nothing_heard}
+use Rattle.redl_said.specs.Said.{said}
 use Rattle.redl_opc.specs.Elements.{elements_of}
 use Rattle.redl_opc.specs.Parts.{story}
 use Rattle.redl_order.specs.References.{is_on}

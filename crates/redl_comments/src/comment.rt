@@ -6,9 +6,9 @@ ghost use Rattle.redl_tree.specs.Model.View.{item_of, nodes_of};
 ghost use Rattle.redl_comments.specs.Comments.{beginning, comment_of, last_paragraph_or};
 ghost use Rattle.redl_comments.specs.Inside.Items.{item_last_paragraph};
 
-use redl_excerpts::{Phrase, tell_nodes};
 use redl_io::Text;
 use redl_relations::value_in;
+use redl_said::{Phrase, tell_nodes};
 use redl_stamp::read_stamp;
 use redl_tree::{Elem, Node, Word, is_word};
 use std::alloc::{AllocError, Global};

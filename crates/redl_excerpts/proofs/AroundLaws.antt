@@ -12,7 +12,7 @@ use Rattle.redl_excerpts.specs.declared.excerpt.Excerpt.{Excerpt}
 use Rattle.redl_excerpts.specs.Excerpts.{TellsEach, is_moved, told_all, told_if_made}
 use Rattle.redl_excerpts.specs.Inside.Around.{IsAround, closed, closed_if, first_if, first_of, opened, opened_if}
 use Rattle.redl_excerpts.specs.Mentions.{Mention, Where, in_element, inside, member_told, stretch_in, told_by}
-use Rattle.redl_excerpts.specs.Phrases.{Kept, heard}
+use Rattle.redl_said.specs.Phrases.{Kept, heard}
 use Rattle.redl_excerpts.proofs.MemberLaws.{inside-element}
 use Rattle.redl_excerpts.proofs.TellLaws.{slice_get-here, slice_get-elsewhere, where_it_is}
 

@@ -12,7 +12,7 @@ use Rattle.redl_excerpts.specs.declared.excerpt.Excerpt.{Excerpt}
 use Rattle.redl_excerpts.specs.Excerpts.{is_made}
 use Rattle.redl_excerpts.specs.Inside.Flat.{are_flat, is_flat}
 use Rattle.redl_excerpts.specs.Mentions.{Mention, Where, bytes_said, inside, mentions, past, told_by}
-use Rattle.redl_excerpts.specs.Said.{element_said}
+use Rattle.redl_said.specs.Said.{element_said}
 use Rattle.redl_excerpts.proofs.MentionLaws.{mentions-⊕}
 
 -- ---- many nodes, one after another

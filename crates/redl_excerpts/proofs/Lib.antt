@@ -1,8 +1,3 @@
-pub mod PhraseLaws
-pub mod EvenLaws
-pub mod SaidLaws
-pub mod IdleLaws
-mod PhraseRows
 pub mod MentionLaws
 pub mod FlatLaws
 pub mod TellLaws

@@ -7,9 +7,9 @@ use Rattle.redl_tree.specs.Roles.Names.{is}
 use Rattle.redl_tree.specs.Roles.Places.{is_quiet}
 use Rattle.redl_excerpts.specs.declared.excerpt.Excerpt.{Excerpt}
 use Rattle.redl_excerpts.specs.Excerpts.{TellsEach}
-use Rattle.redl_excerpts.specs.Lines.{along, line_of}
+use Rattle.redl_said.specs.Lines.{along, line_of}
 use Rattle.redl_excerpts.specs.Mentions.{Mention, Where, in_element, in_paragraph, inside, item_mentions, mentions, past}
-use Rattle.redl_excerpts.specs.Said.{element_said, holds_text, item_said, said, start_said}
+use Rattle.redl_said.specs.Said.{element_said, holds_text, item_said, said, start_said}
 use Rattle.redl_excerpts.proofs.MentionLaws.{mentions_idle}
 use Rattle.redl_excerpts.proofs.TellLaws.{tells-as, tells-nothing, tells-then}
 

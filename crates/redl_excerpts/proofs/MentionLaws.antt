@@ -8,8 +8,8 @@ use Rattle.redl_tree.specs.declared.kinds.Kind.TheVariants.{Plain}
 use Rattle.redl_tree.proofs.Idle.Items.{nodes_are_idle}
 use Rattle.redl_tree.proofs.Idle.Tags.{Idle, idle_parts}
 use Rattle.redl_excerpts.specs.Mentions.{Mention, Where, bytes_said, inside, member_told, mentions, past, told_by}
-use Rattle.redl_excerpts.specs.Ears.{along-more}
-use Rattle.redl_excerpts.specs.Said.{element_said, said}
+use Rattle.redl_said.specs.Ears.{along-more}
+use Rattle.redl_said.specs.Said.{element_said, said}
 
 -- ---- nodes after others
 

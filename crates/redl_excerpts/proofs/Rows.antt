@@ -11,8 +11,8 @@ use Rattle.redl_tree.proofs.Model.Build.{opened, member, content, words, run, de
 use Rattle.redl_excerpts.specs.declared.excerpt.Excerpt.{Excerpt}
 use Rattle.redl_excerpts.specs.Excerpts.{is_move, nothing_told, told_all}
 use Rattle.redl_excerpts.specs.Mentions.{mentions, outside}
-use Rattle.redl_excerpts.specs.Phrases.{begun, heard_byte, kept_text, paused}
-use Rattle.redl_excerpts.specs.Lines.{passed}
+use Rattle.redl_said.specs.Phrases.{begun, heard_byte, kept_text, paused}
+use Rattle.redl_said.specs.Lines.{passed}
 
 -- what a body tells of the revision with this kind and number
 abbrev told_of : RevKind → ℕ → Nodes → Excerpt

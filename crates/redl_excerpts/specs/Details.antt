@@ -1,5 +1,5 @@
 -- Details: what a listing shows of a revision beside its row, its text and the last words of its reviewers (our own rule).
-use Rattle.std.specs.Prelude.{ℕ, ◌+◌, Bool, List, [], ◌∷◌, map, All, IfSome, Option, None, Some, if◌then◌else◌}
+use Rattle.std.specs.Prelude.{ℕ, ◌+◌, Bool, false, List, [], ◌∷◌, map, All, IfSome, Option, None, Some, if◌then◌else◌}
 use Rattle.std.specs.Option.{option_map}
 use Rattle.std.specs.Str.{IsUtf8, is_utf8}
 use Rattle.redl_changed.specs.Changed.{nothing_changed}
@@ -7,7 +7,7 @@ use Rattle.redl_places.specs.Places.{place_on}
 use Rattle.redl_places.specs.declared.place.StoryPlace.{StoryPlace}
 use Rattle.redl_places.specs.declared.place.StoryPlace.TheVariants.{Document}
 use Rattle.redl_excerpts.specs.declared.excerpt.Excerpt.{Excerpt}
-use Rattle.redl_excerpts.specs.Phrases.{kept_text}
+use Rattle.redl_said.specs.Phrases.{kept_text}
 use Rattle.redl_excerpts.specs.Excerpts.{excerpts_of}
 use Rattle.redl_excerpts.specs.Remarks.{IsRemark, Remarks, no_remarks}
 use Rattle.redl_index.specs.declared.revision.Revision.{Revision}
@@ -34,6 +34,8 @@ detail_of excerpt place entries = record {
   id = option_map text_or_nothing excerpt.id;
   changed = excerpt.changed;
   clause = None;
+  edit = 0;
+  hidden = false;
   place = place;
   says = map last_word_of entries;
   remarks = no_remarks;
@@ -41,7 +43,7 @@ detail_of excerpt place entries = record {
 
 -- no detail
 abbrev pub no_detail : Detail
-no_detail = record { words = []; before = []; after = []; id = None; changed = nothing_changed; clause = None; place = Document; says = []; remarks = no_remarks }
+no_detail = record { words = []; before = []; after = []; id = None; changed = nothing_changed; clause = None; edit = 0; hidden = false; place = Document; says = []; remarks = no_remarks }
 
 -- the detail of a revision, if there is an excerpt of it
 abbrev pub detail_if : Option Excerpt → StoryPlace → List Entry → Detail
@@ -51,6 +53,14 @@ detail_if (Some excerpt) place entries = detail_of excerpt place entries
 -- the same with this clause
 abbrev pub with_clause : Detail → Option (List ℕ) → Detail
 with_clause detail clause = record detail { clause = clause }
+
+-- the same with this edit
+abbrev pub with_edit : Detail → ℕ → Detail
+with_edit detail edit = record detail { edit = edit }
+
+-- the same where it is hidden or not
+abbrev pub with_hidden : Detail → Bool → Detail
+with_hidden detail hidden = record detail { hidden = hidden }
 
 -- the same with these comments
 abbrev pub with_remarks : Detail → Remarks → Detail

@@ -10,7 +10,7 @@ use Rattle.redl_tree.specs.Decisions.Packages.{stories}
 use Rattle.redl_tree.specs.Model.Nodes.{Nodes}
 use Rattle.redl_excerpts.specs.declared.excerpt.Excerpt.{Excerpt}
 use Rattle.redl_excerpts.specs.Mentions.{Mention, mentions, outside}
-use Rattle.redl_excerpts.specs.Phrases.{heard, nothing_heard}
+use Rattle.redl_said.specs.Phrases.{heard, nothing_heard}
 
 -- with one mention more
 abbrev pub told : Excerpt → Mention → Excerpt

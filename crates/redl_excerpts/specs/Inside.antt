@@ -1,5 +1,4 @@
 -- What no public clause of this crate names: how its own code is stated.
-pub mod Idle
 pub mod Views
 pub mod Flat
 pub mod Around

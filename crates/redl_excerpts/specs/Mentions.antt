@@ -14,9 +14,9 @@ use Rattle.redl_tree.specs.declared.kinds.Kind.{Kind}
 use Rattle.redl_tree.specs.declared.kinds.Kind.TheVariants.{Plain, Content, Mark, Row, Cell, Change, Marker}
 use Rattle.redl_tree.specs.declared.kinds.Trace.{Trace}
 use Rattle.redl_tree.specs.declared.kinds.Trace.TheVariants.{To}
-use Rattle.redl_excerpts.specs.Said.{said, element_said, start_said, holds_text}
-use Rattle.redl_excerpts.specs.Lines.{line_of, line_start, line_end, along, before, behind}
-use Rattle.redl_excerpts.specs.declared.line.LinePlace.{LinePlace}
+use Rattle.redl_said.specs.Said.{said, element_said, start_said, holds_text}
+use Rattle.redl_said.specs.Lines.{line_of, line_start, line_end, along, before, behind}
+use Rattle.redl_said.specs.declared.line.LinePlace.{LinePlace}
 
 -- what one member tells: its element's own id, its text, what stands before and behind, and which properties it changes
 pub record Mention : Type 0 where

@@ -3,14 +3,14 @@
 ghost use Rattle.std.specs.Prelude.{◌≡◌, IfOk, OnOk, false};
 ghost use Rattle.redl_excerpts.specs.Inside.Around.{closed, closed_if, first_if, first_of, opened, opened_if};
 ghost use Rattle.redl_excerpts.specs.Mentions.{stretch_in};
-ghost use Rattle.redl_excerpts.specs.Lines.{behind};
-ghost use Rattle.redl_excerpts.specs.Said.{said};
+ghost use Rattle.redl_said.specs.Lines.{behind};
+ghost use Rattle.redl_said.specs.Said.{said};
 ghost use Rattle.redl_tree.specs.Model.View.{kids_of, tag_of};
 
 use crate::excerpt::Excerpt;
-use crate::{LinePlace, behind, tell_nodes};
 use redl_changed::ChangedSaid;
 use redl_io::Text;
+use redl_said::{LinePlace, behind, tell_nodes};
 use redl_tree::Elem;
 use std::alloc::{AllocError, Global};
 use std::mem;

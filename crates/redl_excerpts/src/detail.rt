@@ -5,7 +5,7 @@ ghost use Rattle.std.specs.Map.Iter.{deref};
 ghost use Rattle.std.specs.Str.{IsUtf8};
 ghost use Rattle.redl_join.specs.LastWords.{words_on};
 ghost use Rattle.redl_places.specs.Views.{place_at};
-ghost use Rattle.redl_excerpts.specs.Details.{IsDetail, detail_if, detail_of, details_of, no_detail, with_clause, with_remarks};
+ghost use Rattle.redl_excerpts.specs.Details.{IsDetail, detail_if, detail_of, details_of, no_detail, with_clause, with_edit, with_hidden, with_remarks};
 ghost use Rattle.redl_excerpts.specs.Remarks.{IsRemark};
 
 use crate::Excerpt;
@@ -34,6 +34,10 @@ pub struct Detail {
     pub changed: ChangedSaid,
     /// The clause that the revision is in, where that is known and there is one.
     pub clause: Option<Text>,
+    /// The number of the edit that the revision belongs to, and 0 where that isn't known.
+    pub edit: u32,
+    /// Whether it is known to hide text or to show it, to hold hidden text, or to stand in some.
+    pub hidden: bool,
     /// Where its first member is.
     pub place: StoryPlace,
     /// Who said what.
@@ -54,6 +58,8 @@ impl Detail {
             id: None,
             changed: ChangedSaid::none(alloc)?,
             clause: None,
+            edit: 0,
+            hidden: false,
             place: StoryPlace::Document,
             says: Says::none(alloc),
             remarks: Remarks::none(alloc),
@@ -90,6 +96,8 @@ impl Detail {
             id,
             changed,
             clause: None,
+            edit: 0,
+            hidden: false,
             place,
             says,
             remarks: Remarks::none(alloc),
@@ -104,6 +112,24 @@ impl Detail {
         ensures utf8 { IsDetail result }
     {
         Detail { clause, ..self }
+    }
+
+    /// The same with this edit.
+    pub fn with_edit(self, edit: u32) -> Detail
+        requires { IsDetail self }
+        ensures value { result ≡ with_edit self edit }
+        ensures utf8 { IsDetail result }
+    {
+        Detail { edit, ..self }
+    }
+
+    /// The same where it is hidden or not.
+    pub fn with_hidden(self, hidden: bool) -> Detail
+        requires { IsDetail self }
+        ensures value { result ≡ with_hidden self hidden }
+        ensures utf8 { IsDetail result }
+    {
+        Detail { hidden, ..self }
     }
 
     /// The same with these comments.
@@ -135,6 +161,8 @@ impl Detail {
             id,
             changed,
             clause,
+            edit: self.edit,
+            hidden: self.hidden,
             place: self.place,
             says,
             remarks,

@@ -5,13 +5,13 @@ ghost use Rattle.redl_changed.specs.Changed.{nothing_changed};
 ghost use Rattle.redl_tree.specs.Model.View.{nodes_of, tag_of};
 ghost use Rattle.redl_excerpts.specs.Excerpts.{is_trimmed, nothing_told, told};
 ghost use Rattle.redl_excerpts.specs.Mentions.{id_of, paragraph_end_in, stretch_in};
-ghost use Rattle.redl_excerpts.specs.Lines.{along, before};
-ghost use Rattle.redl_excerpts.specs.Said.{said};
+ghost use Rattle.redl_said.specs.Lines.{along, before};
+ghost use Rattle.redl_said.specs.Said.{said};
 
-use crate::{Ear, LinePlace, Phrase, before, behind, tell_nodes};
 use redl_changed::ChangedSaid;
 use redl_io::Text;
 use redl_kinds::RevKind;
+use redl_said::{Ear, LinePlace, Phrase, before, behind, tell_nodes};
 use redl_stamp::attribute;
 use redl_tree::{Elem, Node};
 use std::alloc::{AllocError, Global};

@@ -7,7 +7,7 @@ ghost use Rattle.redl_excerpts.specs.Inside.Flat.{are_flat, is_flat};
 ghost use Rattle.redl_excerpts.specs.Mentions.{Where, mentions};
 
 use crate::excerpt::Excerpt;
-use crate::is_paragraph;
+use redl_said::is_paragraph;
 use redl_tree::Node;
 
 /// The number of nodes up to the last one that may tell something.

@@ -5,9 +5,9 @@ ghost use Rattle.redl_tree.specs.Model.IdleTexts.{idle_nodes};
 ghost use Rattle.redl_tree.specs.Model.View.{nodes_of, item_of, tag_of, kids_of};
 ghost use Rattle.redl_changed.specs.Changed.{changed_of};
 ghost use Rattle.redl_excerpts.specs.Excerpts.{TellsEach, is_moved, told, told_all, told_if_made};
-ghost use Rattle.redl_excerpts.specs.Lines.{along, line_of};
+ghost use Rattle.redl_said.specs.Lines.{along, line_of};
 ghost use Rattle.redl_excerpts.specs.Mentions.{Where, bytes_said, changing, element_mentions, in_paragraph, item_mentions, member_told, mentions, stretch_in, told_by};
-ghost use Rattle.redl_excerpts.specs.Said.{element_said, holds_text, item_said, said, start_said};
+ghost use Rattle.redl_said.specs.Said.{element_said, holds_text, item_said, said, start_said};
 ghost use Rattle.redl_excerpts.specs.Inside.Around.{IsAround};
 ghost use Rattle.redl_excerpts.specs.Inside.Flat.{are_flat};
 ghost use Rattle.redl_excerpts.specs.Inside.Views.{where_of};
@@ -15,12 +15,12 @@ ghost use Rattle.redl_excerpts.specs.Inside.Views.{where_of};
 use crate::around::{begin_around, end_around};
 use crate::excerpt::Excerpt;
 use crate::flat::{are_flat, count_telling, is_made};
-use crate::{
-    Line, LinePlace, holds_text, is_paragraph, tell_bytes, tell_nodes, tell_plain, tell_start,
-};
 use redl_changed::changed_of;
 use redl_index::Revision;
 use redl_kinds::RevKind;
+use redl_said::{
+    Line, LinePlace, holds_text, is_paragraph, tell_bytes, tell_nodes, tell_plain, tell_start,
+};
 use redl_tree::{Elem, Kind, Node, Plain, Prop, Trace, is_quiet};
 use std::alloc::{AllocError, Global};
 

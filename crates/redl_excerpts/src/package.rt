@@ -7,11 +7,11 @@ ghost use Rattle.redl_tree.specs.Model.View.{kids_of};
 ghost use Rattle.redl_excerpts.specs.Excerpts.{TellsEach, excerpts_of, is_moved, is_wanted, package_mentions, wanted_nothing};
 ghost use Rattle.redl_excerpts.specs.Mentions.{mentions, outside};
 
-use crate::LinePlace;
 use crate::excerpt::Excerpt;
 use crate::members::{Here, tell_members};
 use redl_index::{Index, Revision};
 use redl_opc::Package;
+use redl_said::LinePlace;
 use redl_tree::Elem;
 use std::alloc::{AllocError, Global};
 

@@ -1,7 +1,7 @@
 -- The end of a text that stands before the words.
 use Rattle.std.proofs.Common.{◌≡◌, ◌<◌, ◌-◌, ◌++◌, ◌∙◌, ℕ, Bool, true, false, List, [], ◌∷◌, nat_le, refl, sym, ap, arith}
 use Rattle.std.proofs.lemmas.Bool.{leb-true}
-use Rattle.redl_excerpts.specs.Lines.{characters_in, without_characters}
+use Rattle.redl_said.specs.Lines.{characters_in, without_characters}
 use Rattle.redl_terminal.specs.Masks.{hidden_length, masked}
 use Rattle.redl_terminal.specs.declared.extent.Extent.TheVariants.{Field}
 use Rattle.redl_listing.specs.Words.{dots, near_end}

@@ -9,7 +9,7 @@ use Rattle.redl_join.specs.declared.verdict.Verdict.TheVariants.{Accept, Dispute
 use Rattle.redl_journal.specs.declared.entry.Word.TheVariants as word
 use Rattle.redl_places.specs.declared.place.StoryPlace.TheVariants.{Document, Footnote}
 use Rattle.redl_places.specs.declared.sign.NoteSign.TheVariants.{Count}
-use Rattle.redl_excerpts.specs.Phrases.{begun, heard_byte, paused}
+use Rattle.redl_said.specs.Phrases.{begun, heard_byte, paused}
 use Rattle.redl_listing.specs.declared.row.Row.{Row}
 use Rattle.redl_formats.specs.Fields.{newline}
 use Rattle.redl_terminal.specs.Masks.{hidden_length}

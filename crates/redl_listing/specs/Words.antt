@@ -4,8 +4,8 @@
 -- and a disputed one who said what.
 use Rattle.std.specs.Prelude.{ℕ, ◌-◌, nat_le, false, List, [], ◌∷◌, ◌++◌, replicate, decimal, codes, Option, Some, None, if◌then◌else◌}
 use Rattle.std.specs.List.{flat_map}
-use Rattle.redl_excerpts.specs.Lines.{characters_in, without_characters}
-use Rattle.redl_excerpts.specs.Phrases.{heard, kept_text, nothing_heard}
+use Rattle.redl_said.specs.Lines.{characters_in, without_characters}
+use Rattle.redl_said.specs.Phrases.{heard, kept_text, nothing_heard}
 use Rattle.redl_excerpts.specs.declared.detail.Detail.{Detail}
 use Rattle.redl_excerpts.specs.declared.last_word.LastWord.{LastWord}
 use Rattle.redl_listing.specs.Remarks.{remarks_words}

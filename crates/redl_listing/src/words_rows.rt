@@ -9,12 +9,13 @@ ghost use Rattle.redl_listing.specs.Words.{clause_text, closing, closing_of, in_
 
 use crate::remark_rows::push_remarks;
 use crate::row::Row;
-use redl_excerpts::{Detail, LastWord, Says, characters_in, shortened, without_characters};
+use redl_excerpts::{Detail, LastWord, Says};
 use redl_formats::{ItemText, push_left, push_number, push_spaces, verdict_name, word_name};
 use redl_io::Text;
 use redl_join::Verdict;
 use redl_kinds::RevKind;
 use redl_places::{StoryPlace, text_of};
+use redl_said::{characters_in, shortened, without_characters};
 use redl_terminal::{Extent, push_masked};
 use redl_tree::Trace;
 use std::alloc::{AllocError, Global};

@@ -9,11 +9,11 @@ use Rattle.redl_tree.specs.Roles.Places.{is_quiet}
 use Rattle.redl_excerpts.specs.Excerpts.{is_moved}
 use Rattle.redl_excerpts.specs.Mentions.{Mention, Where, stretch_in, told_by}
 use Rattle.redl_excerpts.specs.declared.around.Away.{Away}
-use Rattle.redl_excerpts.specs.Lines.{along}
-use Rattle.redl_excerpts.specs.Said.{holds_text, start_said}
-use Rattle.redl_excerpts.specs.declared.line.LinePlace.{LinePlace}
+use Rattle.redl_said.specs.Lines.{along}
+use Rattle.redl_said.specs.Said.{holds_text, start_said}
+use Rattle.redl_said.specs.declared.line.LinePlace.{LinePlace}
 use Rattle.redl_excerpts.specs.declared.excerpt.Excerpt.{Excerpt}
-use Rattle.redl_excerpts.specs.Phrases.{heard}
+use Rattle.redl_said.specs.Phrases.{heard}
 
 -- A member told these words. What the first member tells is put away, what comes after it is not told so far, and `begun` says whether
 -- a member inside it told.

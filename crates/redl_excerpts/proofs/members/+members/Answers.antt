@@ -6,20 +6,20 @@ use denote.Param.Weighed.{most}
 use Rattle.redl_tree.specs.Model.View.{item_of, kids_of, nodes_of, tag_of}
 use Rattle.redl_tree.specs.declared.node.Node.{Node, size-Node}
 use Rattle.redl_tree.proofs.Model.Laws.{nodes_here}
-use Rattle.redl_excerpts.specs.Ears.{along-more}
+use Rattle.redl_said.specs.Ears.{along-more}
 use Rattle.redl_excerpts.specs.Excerpts.{TellsEach, is_moved}
 use Rattle.redl_excerpts.specs.declared.excerpt.Excerpt.{Excerpt}
 use Rattle.redl_excerpts.specs.Inside.Around.{closed_if, first_if}
 use Rattle.redl_excerpts.specs.Inside.Flat.{are_flat}
-use Rattle.redl_excerpts.specs.Lines.{along, behind}
+use Rattle.redl_said.specs.Lines.{along, behind}
 use Rattle.redl_excerpts.specs.Mentions.{Mention, Where, element_mentions, inside, item_mentions, member_told, mentions, stretch_in}
-use Rattle.redl_excerpts.specs.Said.{item_said, said}
+use Rattle.redl_said.specs.Said.{item_said, said}
 use Rattle.redl_excerpts.specs.Inside.Views.{where_of}
 use Rattle.redl_excerpts.proofs.FlatLaws.{flat_mentions}
 use Rattle.redl_excerpts.proofs.AroundLaws.{inside-around, member-around, tells-around, tells-keep}
 use Rattle.redl_excerpts.proofs.TellLaws.{made-still, tells-as, tells-where_made}
 use Rattle.redl_excerpts.proofs.MemberLaws.{mentions-in_front, tells-begins, tells-goes_on}
-use Rattle.redl_excerpts.proofs.SaidLaws.{said-in_front}
+use Rattle.redl_said.proofs.SaidLaws.{said-in_front}
 use Rattle.redl_excerpts.proofs.members.+members.Goals as goal
 
 pub tell_members-loop-node-init : goal.tell_members-loop-node-init

@@ -1,9 +1,9 @@
 use Rattle.std.proofs.Common.{◌≡◌, drop, true}
 use Rattle.redl_tree.specs.Model.View.{nodes_of}
 use Rattle.redl_excerpts.specs.Excerpts.{is_moved}
-use Rattle.redl_excerpts.specs.Lines.{along}
+use Rattle.redl_said.specs.Lines.{along}
 use Rattle.redl_excerpts.specs.Mentions.{mentions}
-use Rattle.redl_excerpts.specs.Said.{said}
+use Rattle.redl_said.specs.Said.{said}
 use Rattle.redl_excerpts.specs.Inside.Views.{where_of}
 use Rattle.redl_excerpts.proofs.MemberLaws.{TellsSoFar}
 use Rattle.redl_excerpts.proofs.members.+members.Given as goal

@@ -1,6 +1,6 @@
 -- The last characters, with dots for those before.
 use Rattle.std.proofs.Common.{◌<◌, ◌++◌, ◌∙◌, List, ℕ, ap, arith, append_assoc}
-use Rattle.redl_excerpts.specs.Lines.{characters_in}
+use Rattle.redl_said.specs.Lines.{characters_in}
 use Rattle.redl_terminal.specs.Masks.{masked}
 use Rattle.redl_terminal.specs.declared.extent.Extent.TheVariants.{Field}
 use Rattle.redl_listing.specs.Words.{dots}

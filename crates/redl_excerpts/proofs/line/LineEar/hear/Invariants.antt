@@ -1,7 +1,0 @@
-use Rattle.std.proofs.Common.{◌≡◌, drop}
-use Rattle.redl_excerpts.specs.Lines.{drawn}
-use Rattle.redl_excerpts.proofs.line.LineEar.hear.Given as goal
-
--- the bytes that are left are heard after those so far
-abbrev pub invariant-loop-byte : goal.invariant-loop-byte
-invariant-loop-byte l = drawn l.self (drop l.byte-index l.bytes) ≡ drawn l.initial.self l.bytes

@@ -1,9 +1,0 @@
-use Rattle.std.proofs.Common.{◌≡◌, length}
-use Rattle.redl_excerpts.specs.Lines.{without_characters}
-use Rattle.redl_excerpts.proofs.line.without_characters.Given as goal
-
-abbrev pub invariant-loop-first : goal.invariant-loop-first
-invariant-loop-first l = without_characters l.more l.left ≡ without_characters l.count l.bytes
-
-abbrev pub decreases-loop-first : goal.decreases-loop-first
-decreases-loop-first l = length l.left

@@ -1,0 +1,5 @@
+pub mod PhraseLaws
+pub mod EvenLaws
+pub mod SaidLaws
+pub mod IdleLaws
+mod PhraseRows
