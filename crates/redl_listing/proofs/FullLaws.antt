@@ -1,7 +1,7 @@
 -- The tokens of a row's object with its detail.
 use Rattle.std.proofs.Common.{◌≡◌, ◌∙◌, ℕ, List, [], ◌∷◌, ◌++◌, codes, decimal, Option, Some, None, ℤ, ap, refl, append_assoc}
 use Rattle.std.specs.List.{flat_map}
-use Rattle.json.specs.Token.{Token, begin_object, end_object, begin_array, end_array, key, string, number}
+use Rattle.json.specs.Token.{Token, begin_object, end_object, begin_array, end_array, boolean, key, string, number}
 use Rattle.json.specs.Print.{print}
 use Rattle.json.specs.Tree.{json_tokens, items_tokens}
 use Rattle.serde_json.proofs.Texts.{print-outline}
@@ -32,7 +32,8 @@ clause_with more clause rest =
 -- those between the comments and the last words, with this date and this id, and what follows
 abbrev behind_with : Row → Option ℤ → Option (List ℕ) → List Token → List Token
 behind_with row seconds id rest =
-    key (codes "comments_more") ∷ number (decimal (more_remarks row.detail.remarks)) ∷ key (codes "date") ∷ date_token seconds ∷ key (codes "id") ∷ id_token id
+    key (codes "comments_more") ∷ number (decimal (more_remarks row.detail.remarks)) ∷ key (codes "date") ∷ date_token seconds
+    ∷ key (codes "edit") ∷ number (decimal row.detail.edit) ∷ key (codes "hidden") ∷ boolean row.detail.hidden ∷ key (codes "id") ∷ id_token id
     ∷ key (codes "kind") ∷ string (kind_name row.kind) ∷ key (codes "members") ∷ number (decimal row.members)
     ∷ key (codes "number") ∷ number (decimal row.number) ∷ key (codes "part") ∷ string row.part
     ∷ key (codes "place") ∷ string (place_text row.detail.place) ∷ key (codes "says") ∷ begin_array ∷ rest
@@ -62,6 +63,8 @@ object_with row more clause seconds id =
     (member (codes "comments") (value.array (json_remarks row.detail.remarks.first))
     (member (codes "comments_more") (value.number (unsigned (more_remarks row.detail.remarks)))
     (member (codes "date") (json_date seconds)
+    (member (codes "edit") (value.number (unsigned row.detail.edit))
+    (member (codes "hidden") (value.boolean row.detail.hidden)
     (member (codes "id") (json_id id)
     (member (codes "kind") (value.string (kind_name row.kind))
     (member (codes "members") (value.number (unsigned row.members))
@@ -70,7 +73,7 @@ object_with row more clause seconds id =
     (member (codes "place") (value.string (place_text row.detail.place))
     (member (codes "says") (value.array (json_says row.detail.says))
     (member (codes "verdict") (value.string (verdict_name row.verdict))
-    (member (codes "words") (value.string row.detail.words) no_members))))))))))))))))))
+    (member (codes "words") (value.string row.detail.words) no_members))))))))))))))))))))
 
 -- the tokens of the last words, and what follows
 says_tokens : (says : List LastWord) (rest : List Token) → flat_map said_tokens says ++ (end_array ∷ rest) ≡ items_tokens (items_outline (json_says says)) ++ rest
@@ -117,11 +120,23 @@ full-printed row =
 
 -- ---- tokens one after another
 
--- those of six members
-pub members_more : (tokens : List Token) (a b c d e f g h i j k l : Token)
-    → (((((tokens ++ a ∷ b ∷ []) ++ c ∷ d ∷ []) ++ e ∷ f ∷ []) ++ g ∷ h ∷ []) ++ i ∷ j ∷ []) ++ k ∷ l ∷ [] ≡ tokens ++ (a ∷ b ∷ c ∷ d ∷ e ∷ f ∷ g ∷ h ∷ i ∷ j ∷ k ∷ l ∷ [])
-members_more [] a b c d e f g h i j k l = refl
-members_more (token ∷ tokens) a b c d e f g h i j k l = ap (λ (ts : List Token). token ∷ ts) (members_more tokens a b c d e f g h i j k l)
+-- those of three members, the last with its name apart
+pub facts_more : (tokens : List Token) (a b c d e f : Token)
+    → (((tokens ++ a ∷ b ∷ []) ++ c ∷ d ∷ []) ++ e ∷ []) ++ f ∷ [] ≡ tokens ++ (a ∷ b ∷ c ∷ d ∷ e ∷ f ∷ [])
+facts_more [] a b c d e f = refl
+facts_more (token ∷ tokens) a b c d e f = ap (λ (ts : List Token). token ∷ ts) (facts_more tokens a b c d e f)
+
+-- those of five members
+members_behind : (tokens : List Token) (a b c d e f g h i j : Token)
+    → ((((tokens ++ a ∷ b ∷ []) ++ c ∷ d ∷ []) ++ e ∷ f ∷ []) ++ g ∷ h ∷ []) ++ i ∷ j ∷ [] ≡ tokens ++ (a ∷ b ∷ c ∷ d ∷ e ∷ f ∷ g ∷ h ∷ i ∷ j ∷ [])
+members_behind [] a b c d e f g h i j = refl
+members_behind (token ∷ tokens) a b c d e f g h i j = ap (λ (ts : List Token). token ∷ ts) (members_behind tokens a b c d e f g h i j)
+
+-- those of five members after others
+pub members_more : (tokens facts : List Token) (a b c d e f g h i j : Token)
+    → (((((tokens ++ facts) ++ a ∷ b ∷ []) ++ c ∷ d ∷ []) ++ e ∷ f ∷ []) ++ g ∷ h ∷ []) ++ i ∷ j ∷ [] ≡ tokens ++ (facts ++ (a ∷ b ∷ c ∷ d ∷ e ∷ f ∷ g ∷ h ∷ i ∷ j ∷ []))
+members_more tokens facts a b c d e f g h i j =
+    members_behind (tokens ++ facts) a b c d e f g h i j ∙ append_assoc tokens facts (a ∷ b ∷ c ∷ d ∷ e ∷ f ∷ g ∷ h ∷ i ∷ j ∷ [])
 
 -- those of three members, and four lists
 pub front_more : (tokens changed clause remarks behind : List Token) (a b c d e f : Token)

@@ -1,5 +1,5 @@
 -- Rows by hand, as lines of the format `words`.
-use Rattle.std.proofs.Common.{◌≡◌, ℕ, List, [], ◌∷◌, ◌++◌, None, Some, codes, refl}
+use Rattle.std.proofs.Common.{◌≡◌, false, ℕ, List, [], ◌∷◌, ◌++◌, None, Some, codes, refl}
 use Rattle.std.specs.Fmt.{digits}
 use Rattle.redl_changed.specs.Changed.{nothing_changed}
 use Rattle.redl_tree.specs.declared.kinds.Trace.TheVariants.{Del}
@@ -32,6 +32,8 @@ deletion = record {
     id = None;
     changed = nothing_changed;
     clause = Some (codes "4.2(a)");
+    edit = 31;
+    hidden = false;
     place = Footnote (Some (Count 3));
     says = record { reviewer = codes "Ann Gray"; word = word.Accept } ∷ record { reviewer = codes "Bob Hay"; word = word.Reject } ∷ [];
     remarks = record { first = []; count = 2 };
@@ -57,7 +59,7 @@ change = record {
   seconds = None;
   part = codes "/word/document.xml";
   members = 1;
-  detail = record { words = codes "The Seller delivers the goods to the store"; before = []; after = []; id = None; changed = record { changes = []; more = Some 0; line = codes "alignment: not set " ++ (arrow ++ codes "justified") }; clause = None; place = Document; says = []; remarks = record { first = []; count = 1 } };
+  detail = record { words = codes "The Seller delivers the goods to the store"; before = []; after = []; id = None; changed = record { changes = []; more = Some 0; line = codes "alignment: not set " ++ (arrow ++ codes "justified") }; clause = None; edit = 7; hidden = false; place = Document; says = []; remarks = record { first = []; count = 1 } };
 }
 
 row_change : words_row change ≡ codes "    7 para-props   accept   Dana Fox & C" ++ dots ++ codes " {=alignment: not set " ++ arrow ++ codes "justified=}The Seller delivers the goods " ++ dots ++ codes "  (1 comment)" ++ newline

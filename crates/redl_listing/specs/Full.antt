@@ -1,8 +1,8 @@
 -- The text of the format `full`: an array with an object for each row (RFC 8259), which has the members of `json` and the row's
 -- detail (our own rule).
 use Rattle.std.specs.Prelude.{ℕ, Bool, List, [], ◌∷◌, ◌++◌, codes, decimal, Option, Some, None}
-use Rattle.json.specs.Token.{Token, begin_object, end_object, key, null as null_token, number as number_token, string as string_token}
-use Rattle.serde_json.specs.Data.{Data, Items, null, string, number, unsigned, array, object, member, no_members, item, no_items}
+use Rattle.json.specs.Token.{Token, begin_object, end_object, key, boolean as boolean_token, null as null_token, number as number_token, string as string_token}
+use Rattle.serde_json.specs.Data.{Data, Items, boolean, null, string, number, unsigned, array, object, member, no_members, item, no_items}
 use Rattle.serde_json.specs.Written.{compact_text}
 use Rattle.redl_excerpts.specs.declared.last_word.LastWord.{LastWord}
 use Rattle.redl_places.specs.Texts.{place_text}
@@ -50,6 +50,8 @@ full_object row =
     (member (codes "comments") (array (json_remarks row.detail.remarks.first))
     (member (codes "comments_more") (number (unsigned (more_remarks row.detail.remarks)))
     (member (codes "date") (json_date row.seconds)
+    (member (codes "edit") (number (unsigned row.detail.edit))
+    (member (codes "hidden") (boolean row.detail.hidden)
     (member (codes "id") (json_id row.detail.id)
     (member (codes "kind") (string (kind_name row.kind))
     (member (codes "members") (number (unsigned row.members))
@@ -58,17 +60,22 @@ full_object row =
     (member (codes "place") (string (place_text row.detail.place))
     (member (codes "says") (array (json_says row.detail.says))
     (member (codes "verdict") (string (verdict_name row.verdict))
-    (member (codes "words") (string row.detail.words) no_members))))))))))))))))))
+    (member (codes "words") (string row.detail.words) no_members))))))))))))))))))))
 
 -- the members between the changed properties and the comments, and those between these and the place, as they are written
 abbrev pub clause_tokens : Row → List Token
 clause_tokens row = key (codes "changed_more") ∷ more_token row.detail.changed.more ∷ key (codes "clause") ∷ id_token row.detail.clause ∷ []
 
+abbrev pub fact_tokens : Row → List Token
+fact_tokens row =
+    key (codes "date") ∷ date_token row.seconds ∷ key (codes "edit") ∷ number_token (decimal row.detail.edit)
+    ∷ key (codes "hidden") ∷ boolean_token row.detail.hidden ∷ []
+
 abbrev pub behind_tokens : Row → List Token
 behind_tokens row =
-    key (codes "date") ∷ date_token row.seconds ∷ key (codes "id") ∷ id_token row.detail.id ∷ key (codes "kind") ∷ string_token (kind_name row.kind)
+    fact_tokens row ++ (key (codes "id") ∷ id_token row.detail.id ∷ key (codes "kind") ∷ string_token (kind_name row.kind)
     ∷ key (codes "members") ∷ number_token (decimal row.members) ∷ key (codes "number") ∷ number_token (decimal row.number)
-    ∷ key (codes "part") ∷ string_token row.part ∷ []
+    ∷ key (codes "part") ∷ string_token row.part ∷ [])
 
 -- those before the place
 abbrev pub front_tokens : Row → List Token

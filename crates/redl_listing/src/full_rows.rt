@@ -5,7 +5,7 @@ ghost use Rattle.std.specs.List.{flat_map};
 ghost use Rattle.std.specs.Str.{IsUtf8};
 ghost use Rattle.json.specs.Token.{begin_array as begin_array_token, end_array as end_array_token, key as key_token};
 ghost use Rattle.redl_listing.specs.Rows.{IsRow};
-ghost use Rattle.redl_listing.specs.Full.{behind_tokens, clause_tokens, front_tokens, full_row, id_token, said_tokens};
+ghost use Rattle.redl_listing.specs.Full.{behind_tokens, clause_tokens, fact_tokens, front_tokens, full_row, id_token, said_tokens};
 
 use crate::changed_rows::{put_changed, put_more};
 use crate::remark_rows::put_remarks;
@@ -87,12 +87,25 @@ fn put_behind(object: &mut Writer, row: &Row) -> Result<(), AllocError>
     ensures written { OnOk result (object.new.tokens ≡ object.old.tokens ++ behind_tokens row.now) }
     ensures before { OnOk result (object.new.before ≡ object.old.before) }
 {
-    put_date(object, row.seconds)?;
+    put_facts(object, row)?;
     put_if_any(object, "id", &row.detail.id)?;
     put_text(object, "kind", row.kind.name().as_bytes())?;
     put_number(object, "members", row.members)?;
     put_number(object, "number", row.number)?;
     put_text(object, "part", row.part.as_bytes())?;
+    Ok(())
+}
+
+// Writes the date, the number of the edit, and whether the revision is hidden. `Err` means out of memory.
+fn put_facts(object: &mut Writer, row: &Row) -> Result<(), AllocError>
+    requires { IsRow row.now }
+    ensures written { OnOk result (object.new.tokens ≡ object.old.tokens ++ fact_tokens row.now) }
+    ensures before { OnOk result (object.new.before ≡ object.old.before) }
+{
+    put_date(object, row.seconds)?;
+    put_number(object, "edit", row.detail.edit)?;
+    object.key("hidden")?;
+    object.boolean(row.detail.hidden)?;
     Ok(())
 }
 

@@ -10,8 +10,8 @@ returns-clause-written c =
       c.in_ok-put_number.ensures.written,
       c.in_ok-put_text.ensures.written,
       c.in_ok-put_if_any.ensures.written,
-      c.in_ok-put_date.ensures.written,
+      c.in_ok-put_facts.ensures.written,
       c.as_bytes-2.ensures,
       c.as_bytes.ensures.value,
       c.name.ensures,
-    ) (members_more c.args.object.now.tokens _ _ _ _ _ _ _ _ _ _ _ _)
+    ) (members_more c.args.object.now.tokens _ _ _ _ _ _ _ _ _ _ _)
