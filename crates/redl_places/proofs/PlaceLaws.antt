@@ -1,22 +1,14 @@
 -- Places that are set one by one, the last first.
-use Rattle.std.proofs.Common.{◌≡◌, ◌∙◌, refl, sym, ap, ℕ, ◌==◌, ◌+◌, ◌<◌, List, ◌∷◌, drop, get_or, length, Bool, true, false, cond, Option, Some, None, unwrap_or, Ordering, Less, Equal, Greater, if◌then◌else◌}
+use Rattle.std.proofs.Common.{◌≡◌, ◌∙◌, refl, sym, ap, ℕ, ◌==◌, ◌+◌, ◌<◌, List, ◌∷◌, drop, get_or, length, Bool, true, false, cond, Option, unwrap_or, Ordering, Less, Equal, Greater, if◌then◌else◌}
 use Rattle.std.proofs.lemmas.Bool.{eq-eqb, eqb-true, false_from_ne_true}
 use Rattle.std.proofs.lemmas.List.{drop_more}
 use Rattle.std.proofs.lemmas.Map.Lookups.{exact_unsigned}
 use Rattle.std.specs.Cmp.{nat_cmp_is}
-use Rattle.std.specs.Ordering.{nat_cmp, match_ordering, is_eq}
-use Rattle.redl_tree.specs.Model.Nodes.{Nodes}
-use Rattle.redl_order.specs.Order.{document_references}
-use Rattle.redl_order.specs.declared.reference.Named.TheVariants as named
-use Rattle.redl_order.specs.declared.reference.Reference.{Reference}
-use Rattle.redl_places.specs.Places.{is_document, package_signs, place_among}
-use Rattle.redl_places.specs.Signs.{sign_of}
-use Rattle.redl_places.specs.Views.{sign_at, signs_of}
+use Rattle.std.specs.Ordering.{nat_cmp, is_eq}
+use Rattle.redl_places.specs.Places.{is_document, place_among}
 use Rattle.redl_places.specs.declared.place.StoryPlace.{StoryPlace}
 use Rattle.redl_places.specs.declared.place.StoryPlace.TheVariants.{Document, Header, Footer, Comment, TextBox, Footnote, Endnote}
 use Rattle.redl_places.specs.declared.place.MemberPlace.{MemberPlace}
-use Rattle.redl_places.specs.declared.sign.AllSigns.{AllSigns}
-use Rattle.redl_places.proofs.WalkLaws.{SameSigns}
 
 -- numbers that compare as equal are the same
 compared : (a b : ℕ) → is_eq (nat_cmp a b) ≡ (a == b)
@@ -58,10 +50,3 @@ pub one_before : (members : List MemberPlace) (i v : ℕ) (member : MemberPlace)
 one_before members i v member places now within is so_far set =
     set ∙ ap (λ p. if member.revision == v then member.place else p) so_far
     ∙ sym (ap (place_among v) (drop_more members i member within ∙ ap (λ m. m ∷ drop (i + 1) members) (sym is)))
-
--- the signs of the references of a package are those of the package
-pub package-signs : (signs : AllSigns) (pkg : Nodes) (references : List Reference) → references ≡ document_references pkg
-    → ((id : List ℕ) → sign_at signs.footnotes id ≡ sign_of named.Footnote references id) → ((id : List ℕ) → sign_at signs.endnotes id ≡ sign_of named.Endnote references id)
-    → SameSigns (signs_of signs) (package_signs pkg)
-package-signs signs pkg references is footnotes endnotes =
-    (λ id. footnotes id ∙ ap (λ rs. sign_of named.Footnote rs id) is, λ id. endnotes id ∙ ap (λ rs. sign_of named.Endnote rs id) is)

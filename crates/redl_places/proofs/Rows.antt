@@ -2,7 +2,7 @@
 use Rattle.std.proofs.Common.{◌≡◌, codes, refl, Some, None}
 use Rattle.redl_places.specs.Texts.{place_text}
 use Rattle.redl_places.specs.declared.sign.NoteSign.TheVariants.{Own, Count}
-use Rattle.redl_places.specs.declared.place.StoryPlace.TheVariants.{Document, Header, Footer, Comment, TextBox, Footnote, Endnote}
+use Rattle.redl_places.specs.declared.place.StoryPlace.TheVariants.{TextBox, Footnote, Endnote}
 use Rattle.std.specs.Fmt.{digits}
 
 in_a_footnote : place_text (Footnote (Some (Count 12))) ≡ codes "footnote 12"

@@ -1,11 +1,21 @@
 -- Signs that references give, one after the other.
-use Rattle.std.proofs.Common.{◌≡◌, ◌∙◌, refl, sym, ap, ℕ, ◌+◌, ◌≤◌, List, ◌∷◌, arith, Bool, true, false, bytes_eq, cond, Option, Some, None, IsSome, is_some, if◌then◌else◌}
+use Rattle.std.proofs.Common.{◌≡◌, ◌∙◌, refl, sym, ap, subst, ℕ, ◌+◌, ◌≤◌, List, arith, Bool, true, false, bytes_eq, cond, Option, Some, None, is_some, if◌then◌else◌}
+use Rattle.std.proofs.lemmas.Cmp.{nat_list_cmp_total}
+use Rattle.std.proofs.lemmas.Map.Text.{is_eq-slice_cmp}
 use Rattle.std.proofs.lemmas.Slice.Eq.{bytes_eq-Decides}
+use Rattle.std.specs.BTreeMap.{UpdatesBy}
+use Rattle.std.specs.Cmp.{eq_by_cmp_equiv}
+use Rattle.std.specs.Cmp.Lexicographic.{slice_cmp, nat_list_eq_equiv}
+use Rattle.std.specs.Global.{Vec}
+use Rattle.std.specs.Map.{AreApart, IsKeyTest, KeepsOthers, lookup}
+use Rattle.std.specs.Ordering.{is_eq, nat_cmp}
 use Rattle.redl_reading.specs.Steps.{or_else}
 use Rattle.redl_order.specs.Order.{is_same}
 use Rattle.redl_order.specs.declared.reference.Named.{Named}
 use Rattle.redl_order.specs.declared.reference.Reference.{Reference}
 use Rattle.redl_places.specs.Signs.{count_after}
+use Rattle.redl_places.specs.Views.{sign_at}
+use Rattle.redl_places.specs.declared.sign.KindSigns.{KindSigns}
 use Rattle.redl_places.specs.declared.sign.NoteSign.{NoteSign}
 
 pub or_nothing : (o : Option NoteSign) → o ≡ or_else o None
@@ -16,6 +26,30 @@ or_nothing (Some x) = refl
 pub or-or : (a b c : Option NoteSign) → or_else (or_else a b) c ≡ or_else a (or_else b c)
 or-or None b c = refl
 or-or (Some x) b c = refl
+
+-- ---- maps by owned ids
+
+module _ {K : Type 0} (eq : K → K → Bool) (test : K → Bool) where
+  other_entries : {X : Type 0} (old new : List (K × X)) → KeepsOthers eq test old new → (other : K → Bool) → IsKeyTest eq other → AreApart test other → lookup other new ≡ lookup other old
+  unfolding KeepsOthers
+  other_entries old new h = h
+
+apart : (id other key : List ℕ) → bytes_eq id other ≡ false → is_eq (slice_cmp nat_cmp id key) ≡ true → is_eq (slice_cmp nat_cmp other key) ≡ false
+apart id other key differ same =
+    is_eq-slice_cmp other key ∙ nat_list_eq_equiv.symm other key ∙ sym (nat_list_eq_equiv.congr id key other (sym (is_eq-slice_cmp id key) ∙ same)) ∙ differ
+
+-- what a map with owned ids has at any id after a change at one
+pub updated : (id : List ℕ) (old new : KindSigns) (sign : Option NoteSign)
+    → UpdatesBy (λ (x y : Vec ℕ). slice_cmp nat_cmp x.items y.items) (λ (k : Vec ℕ). slice_cmp nat_cmp id k.items) old.by_id new.by_id sign
+    → (other : List ℕ) → sign_at new other ≡ cond (bytes_eq id other) sign (sign_at old other)
+updated id old new sign h other = by (bytes_eq id other) refl
+  where
+    by : (b : Bool) → bytes_eq id other ≡ b → sign_at new other ≡ cond b sign (sign_at old other)
+    by true same = subst (λ (l : List ℕ). sign_at new l ≡ sign) ((bytes_eq-Decides id other).0 same) h.1
+    by false differ =
+        other_entries _ _ _ _ h.3 _ (λ (x y : Vec ℕ). (eq_by_cmp_equiv nat_list_cmp_total).congr other x.items y.items) (λ (k : Vec ℕ). apart id other k.items differ)
+
+-- ---- signs
 
 -- a sign more, where there was none: the signs before were `old`
 pub sign_more : (id other : List ℕ) (old : List ℕ → Option NoteSign) (sign : NoteSign) (now : Option NoteSign) → old id ≡ None → now ≡ cond (bytes_eq id other) (Some sign) (old other)

@@ -6,7 +6,7 @@ use Rattle.std.proofs.lemmas.Str.{IsAscii-append, IsUtf8-from_ascii}
 use Rattle.std.proofs.lemmas.Str.Ascii.{IsAscii-nil, IsAscii-from_all}
 use Rattle.std.specs.Fmt.{digit_glyph, digits, digits_onto}
 use Rattle.std.specs.Str.{IsAscii, IsUtf8}
-use Rattle.redl_numerals.specs.Numerals.{plus_text, roman, roman_digit, roman_text}
+use Rattle.redl_numerals.specs.Numerals.{roman, roman_digit, roman_text}
 use Rattle.redl_numerals.specs.declared.format.Format.TheVariants.{Decimal, LowerRoman}
 use Rattle.redl_places.specs.Texts.{place_text, sign_text}
 use Rattle.redl_places.specs.declared.sign.NoteSign.{NoteSign}

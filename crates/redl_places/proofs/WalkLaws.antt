@@ -1,19 +1,17 @@
 -- Members among nodes one after the other, and that no idle element is one.
-use Rattle.std.proofs.Common.{◌≡◌, ◌∙◌, refl, sym, ap, ℕ, List, [], ◌∷◌, ◌++◌, append_assoc, Bool, true, false, Option, if◌then◌else◌}
-use Rattle.std.specs.List.{flat_map}
+use Rattle.std.proofs.Common.{◌≡◌, ◌∙◌, refl, sym, ap, List, [], ◌∷◌, ◌++◌, append_assoc, Bool, true, false, Option, if◌then◌else◌}
 use Rattle.redl_tree.specs.Model.Nodes.{Tag, Nodes, no_nodes, bytes, element, Item, bytes_item, element_item, idle_item, in_front, ◌⊕◌}
 use Rattle.redl_tree.specs.Model.IdleTexts.{idle_nodes}
-use Rattle.redl_tree.specs.Model.View.{Element}
 use Rattle.redl_tree.specs.Roles.Names.{is}
 use Rattle.redl_tree.specs.Roles.Idle.{is_idle_in}
 use Rattle.redl_tree.proofs.Idle.Tags.{idle_parts}
 use Rattle.redl_tree.proofs.Idle.Items.{nodes_are_idle}
 use Rattle.redl_order.specs.References.{id_in}
-use Rattle.redl_places.specs.Places.{Signs, is_member, member_places, own_place, place_in, story_places}
+use Rattle.redl_places.specs.Places.{Signs, is_member, member_places, own_place, place_in}
 use Rattle.redl_places.specs.Items.{item_places}
 use Rattle.redl_places.specs.declared.sign.NoteSign.{NoteSign}
 use Rattle.redl_places.specs.declared.place.StoryPlace.{StoryPlace}
-use Rattle.redl_places.specs.declared.place.StoryPlace.TheVariants.{Document, Header, Footer, Comment, TextBox, Footnote, Endnote}
+use Rattle.redl_places.specs.declared.place.StoryPlace.TheVariants.{Footnote, Endnote}
 use Rattle.redl_places.specs.declared.place.MemberPlace.{MemberPlace}
 
 -- ---- nodes one after the other
@@ -43,42 +41,6 @@ places-in_front signs here (element_item tag kids) rest = refl
 places-in_front signs here (idle_item t) rest =
     places-⊕ signs here (idle_nodes t) rest
     ∙ ap (λ (ps : List MemberPlace). ps ++ member_places signs here rest) (idle_places signs here false (idle_nodes t) (nodes_are_idle t))
-
--- ---- the same signs
-
-abbrev pub SameSigns : Signs → Signs → Type 0
-SameSigns one other = ((id : List ℕ) → one.footnote id ≡ other.footnote id) × ((id : List ℕ) → one.endnote id ≡ other.endnote id)
-
--- the place inside an element, where notes have these signs
-abbrev place_with : Option NoteSign → Option NoteSign → StoryPlace → Tag → StoryPlace
-place_with footnote endnote here tag =
-    if is "txbxContent" tag then TextBox
-    else if is "hdr" tag then Header
-    else if is "ftr" tag then Footer
-    else if is "comment" tag then Comment
-    else if is "footnote" tag then Footnote footnote
-    else if is "endnote" tag then Endnote endnote
-    else here
-
-place-same : (one other : Signs) (here : StoryPlace) (tag : Tag) → SameSigns one other → place_in one here tag ≡ place_in other here tag
-place-same one other here tag same =
-    let id = id_in tag.tail in
-    ap (λ s. place_with s (one.endnote id) here tag) (same.0 id) ∙ ap (λ s. place_with (other.footnote id) s here tag) (same.1 id)
-
-places-same : (one other : Signs) (here : StoryPlace) (x : Nodes) → SameSigns one other → member_places one here x ≡ member_places other here x
-places-same one other here no_nodes same = refl
-places-same one other here (bytes b rest) same = places-same one other here rest same
-places-same one other here (element tag kids rest) same =
-    ap (λ p. (own_place here tag ++ member_places one p kids) ++ member_places one here rest) (place-same one other here tag same)
-    ∙ ap (λ (ps : List MemberPlace). (own_place here tag ++ ps) ++ member_places one here rest) (places-same one other (place_in other here tag) kids same)
-    ∙ ap (λ (ps : List MemberPlace). (own_place here tag ++ member_places other (place_in other here tag) kids) ++ ps) (places-same one other here rest same)
-
-pub stories-same : (one other : Signs) (roots : List Element) → SameSigns one other → flat_map (story_places one) roots ≡ flat_map (story_places other) roots
-stories-same one other [] same = refl
-stories-same one other (root ∷ roots) same =
-    ap (λ p. member_places one p root.kids ++ flat_map (story_places one) roots) (place-same one other Document root.tag same)
-    ∙ ap (λ (ps : List MemberPlace). ps ++ flat_map (story_places one) roots) (places-same one other (place_in other Document root.tag) root.kids same)
-    ∙ ap (λ (ps : List MemberPlace). story_places other root ++ ps) (stories-same one other roots same)
 
 -- ---- inside a note
 

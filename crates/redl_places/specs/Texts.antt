@@ -1,5 +1,5 @@
 -- Places in words (our own rule). Endnotes are counted in small Roman numerals, as word processors show them.
-use Rattle.std.specs.Prelude.{ℕ, List, [], ◌∷◌, ◌++◌, codes, Option, Some, None}
+use Rattle.std.specs.Prelude.{ℕ, List, [], ◌++◌, codes, Option, Some, None}
 use Rattle.redl_numerals.specs.Numerals.{plus_text}
 use Rattle.redl_numerals.specs.declared.format.Format.{Format}
 use Rattle.redl_numerals.specs.declared.format.Format.TheVariants.{Decimal, LowerRoman}

@@ -2,7 +2,8 @@
 //! header, a footer, a comment, a text box, or a note by its sign.
 //!
 //! Read `Places::of`, and `specs/Places.antt`. It goes over each story once. `text_of` says a place in words. Which sign a reader sees
-//! at a reference in the text is `specs/Signs.antt`; what is listed with a place is left to the crates above.
+//! at a reference in the text is `specs/Signs.antt`, and `NoteSigns::of` the table of them; what is listed with a place is left to the
+//! crates above.
 #![tactic(auto)]
 
 mod place;
@@ -13,5 +14,5 @@ mod walk;
 
 pub use place::{MemberPlace, StoryPlace};
 pub use places::Places;
-pub use sign::NoteSign;
+pub use sign::{NoteSign, NoteSigns};
 pub use text::text_of;

@@ -9,10 +9,9 @@ ghost use Rattle.redl_places.specs.Places.{place_among, place_on, story_places};
 ghost use Rattle.redl_places.specs.Views.{place_at, signs_of};
 
 use crate::place::{MemberPlace, StoryPlace};
-use crate::sign::AllSigns;
+use crate::sign::NoteSigns;
 use crate::walk::{add_nodes, place_in};
 use redl_opc::Package;
-use redl_order::document_references;
 use redl_tree::Elem;
 use std::alloc::{AllocError, Global};
 use std::collections::BTreeMap;
@@ -29,8 +28,7 @@ impl Places {
     pub fn of(alloc: Global, pkg: &Package) -> Result<Places, AllocError>
         ensures { IfOk result (λ places. (v : ℕ) → place_at places v ≡ place_on pkg.now v) }
     {
-        let references = document_references(alloc, pkg)?;
-        let signs = AllSigns::of(alloc, &references)?;
+        let signs = NoteSigns::of(alloc, pkg)?;
         let mut members = Vec::new(alloc);
         for part in 0..pkg.parts() {
             add_part(pkg, part, &signs, &mut members)?;
@@ -87,7 +85,7 @@ fn from_end(members: &[MemberPlace], after: usize) -> MemberPlace
 fn add_part(
     pkg: &Package,
     part: u32,
-    signs: &AllSigns<'_>,
+    signs: &NoteSigns,
     members: &mut Vec<MemberPlace>,
 ) -> Result<(), AllocError>
     ensures { OnOk result (members.new.items ≡ members.old.items ++ flat_map (story_places (signs_of signs.now)) (stories_of_part pkg.now part)) }
@@ -100,7 +98,7 @@ fn add_part(
 
 fn add_root(
     root: &Elem,
-    signs: &AllSigns<'_>,
+    signs: &NoteSigns,
     members: &mut Vec<MemberPlace>,
 ) -> Result<(), AllocError>
     ensures { OnOk result (members.new.items ≡ members.old.items ++ story_places (signs_of signs.now) (element_of root.now)) }

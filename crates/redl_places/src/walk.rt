@@ -7,7 +7,7 @@ ghost use Rattle.redl_places.specs.Items.{element_places, item_places};
 ghost use Rattle.redl_places.specs.Views.{signs_of};
 
 use crate::place::{MemberPlace, StoryPlace};
-use crate::sign::AllSigns;
+use crate::sign::NoteSigns;
 use redl_order::value_in;
 use redl_tree::{Elem, Kind, Node, Word, is_word};
 use std::alloc::AllocError;
@@ -16,7 +16,7 @@ use std::alloc::AllocError;
 #[cycle(walk)]
 pub(crate) fn add_nodes(
     nodes: &[Node],
-    signs: &AllSigns<'_>,
+    signs: &NoteSigns,
     here: StoryPlace,
     members: &mut Vec<MemberPlace>,
 ) -> Result<(), AllocError>
@@ -31,7 +31,7 @@ pub(crate) fn add_nodes(
 #[cycle(walk)]
 fn add_node(
     node: &Node,
-    signs: &AllSigns<'_>,
+    signs: &NoteSigns,
     here: StoryPlace,
     members: &mut Vec<MemberPlace>,
 ) -> Result<(), AllocError>
@@ -46,7 +46,7 @@ fn add_node(
 #[cycle(walk)]
 fn add_elem(
     elem: &Elem,
-    signs: &AllSigns<'_>,
+    signs: &NoteSigns,
     here: StoryPlace,
     members: &mut Vec<MemberPlace>,
 ) -> Result<(), AllocError>
@@ -76,7 +76,7 @@ fn is_member(kind: Kind) -> bool
 }
 
 /// The place of an element's kids, from its own.
-pub(crate) fn place_in(elem: &Elem, signs: &AllSigns<'_>, here: StoryPlace) -> StoryPlace
+pub(crate) fn place_in(elem: &Elem, signs: &NoteSigns, here: StoryPlace) -> StoryPlace
     ensures { result ≡ place_in (signs_of signs.now) here (tag_of elem.now) }
 {
     if is_word(elem, Word::TxbxContent) {
@@ -92,10 +92,10 @@ pub(crate) fn place_in(elem: &Elem, signs: &AllSigns<'_>, here: StoryPlace) -> S
         return StoryPlace::Comment;
     }
     if is_word(elem, Word::Footnote) {
-        return StoryPlace::Footnote(signs.footnotes.at(value_in(elem.tail(), b"id")));
+        return StoryPlace::Footnote(signs.footnote(value_in(elem.tail(), b"id")));
     }
     if is_word(elem, Word::Endnote) {
-        return StoryPlace::Endnote(signs.endnotes.at(value_in(elem.tail(), b"id")));
+        return StoryPlace::Endnote(signs.endnote(value_in(elem.tail(), b"id")));
     }
     here
 }

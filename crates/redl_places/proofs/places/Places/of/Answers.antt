@@ -8,12 +8,10 @@ use Rattle.redl_tree.specs.Model.View.{Element}
 use Rattle.redl_opc.specs.Shape.{parts_of}
 use Rattle.redl_opc.specs.Stories.{stories_of_part, stories_from}
 use Rattle.redl_opc.proofs.WalkLaws.{stories_from-start, stories_from-part, stories_from-end}
-use Rattle.redl_places.specs.Places.{package_signs, place_among, place_on, story_places}
+use Rattle.redl_places.specs.Places.{Signs, place_among, place_on, story_places}
 use Rattle.redl_places.specs.Views.{place_at, signs_of}
 use Rattle.redl_places.specs.declared.place.MemberPlace.{MemberPlace}
 use Rattle.redl_places.specs.declared.places.Places.{Places}
-use Rattle.redl_places.proofs.WalkLaws.{stories-same}
-use Rattle.redl_places.proofs.PlaceLaws.{package-signs}
 use Rattle.redl_places.proofs.places.Places.of.Goals as goal
 
 pub loop-part-init : goal.loop-part-init
@@ -43,5 +41,5 @@ returns c =
     let now = c.loop-part.members.items in
     let past : length (parts_of pkg) ≤ c.loop-part.part = omega (arith, c.parts-part-end.ensures.value, c.loop-part-test.false) in
     let all : now ≡ flat_map (story_places signs) (stories pkg) = sym (ap (λ (es : List Element). now ++ flat_map (story_places signs) es) (stories_from-end pkg c.loop-part.part past) ∙ append-nil now) ∙ c.loop-part.invariant in
-    IfOk-weaker c.among.result (λ (places : Places). (v : ℕ) → place_at places v ≡ place_among v c.deref-2.result.now) (λ (places : Places). (v : ℕ) → place_at places v ≡ place_on pkg v)
-    (λ places is. λ v. is v ∙ ap (place_among v) (c.deref-2.ensures.value ∙ all ∙ stories-same signs (package_signs pkg) (stories pkg) (package-signs c.in_ok-signs.signs pkg c.deref.result.now (c.deref.ensures.value ∙ c.in_ok-references.ensures) c.in_ok-signs.ensures.footnotes c.in_ok-signs.ensures.endnotes))) c.among.ensures
+    IfOk-weaker c.among.result (λ (places : Places). (v : ℕ) → place_at places v ≡ place_among v c.deref.result.now) (λ (places : Places). (v : ℕ) → place_at places v ≡ place_on pkg v)
+    (λ places is. λ v. is v ∙ ap (place_among v) (c.deref.ensures.value ∙ all ∙ ap (λ (s : Signs). flat_map (story_places s) (stories pkg)) c.in_ok-signs.ensures)) c.among.ensures

@@ -1,9 +1,9 @@
 -- Reference after reference.
-use Rattle.std.proofs.Common.{◌+◌, ◌≤◌, ◌∷◌, ◌∙◌, [], ap, sym, refl, drop, arith, List, Option}
+use Rattle.std.proofs.Common.{◌+◌, ◌∷◌, ◌∙◌, ap, sym, drop, arith, List, Option}
 use Rattle.std.proofs.lemmas.List.{drop_more, drop_all}
 use Rattle.redl_reading.specs.Steps.{or_else}
 use Rattle.redl_order.specs.declared.reference.Reference.{Reference}
-use Rattle.redl_places.specs.Signs.{count_after, sign_by, sign_from, sign_of}
+use Rattle.redl_places.specs.Signs.{count_after, sign_by, sign_from}
 use Rattle.redl_places.specs.Views.{sign_at}
 use Rattle.redl_places.specs.declared.sign.NoteSign.{NoteSign}
 use Rattle.redl_places.proofs.SignLaws.{count_few, or_nothing, or-or}
