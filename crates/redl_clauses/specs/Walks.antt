@@ -11,6 +11,7 @@ use Rattle.redl_lists.specs.Owns.{own_of}
 use Rattle.redl_lists.specs.declared.table.Tables.{Tables}
 use Rattle.redl_clauses.specs.Signs.{shows_something}
 use Rattle.redl_numbering.specs.Counts.{Counts, before, counts_after, nothing_counted, passed}
+use Rattle.redl_numbering.specs.Nums.{Counted, counted}
 
 -- what was counted; for each revision what is said of its place, once that is known; and the revisions that wait for the next
 -- paragraph of their table
@@ -79,6 +80,10 @@ only_ends_section kids = (own_of kids).ends_section && not (shows_something kids
 
 abbrev pub paragraph_counted : Tables → Nodes → Counts → Counts
 paragraph_counted tables kids counts = if only_ends_section kids then passed counts else counts_after tables longest_chain counts (own_of kids)
+
+-- its num and its level, if it is counted
+abbrev pub paragraph_found : Tables → Nodes → Option Counted
+paragraph_found tables kids = if only_ends_section kids then None else counted tables longest_chain (own_of kids)
 
 abbrev pub paragraph_begun : Tables → Nodes → Walk → Walk
 paragraph_begun tables kids w =

@@ -6,6 +6,7 @@
 #![tactic(auto)]
 
 mod details;
+mod paragraph;
 mod says;
 mod signs;
 mod stories;
@@ -15,4 +16,6 @@ mod walk;
 mod walked;
 
 pub use details::{clause_at, numbered_details};
+pub use paragraph::count_paragraph;
 pub use stories::clauses_of;
+pub use tables::package_tables;

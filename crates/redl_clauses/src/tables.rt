@@ -12,7 +12,7 @@ use redl_tree::Elem;
 use std::alloc::{AllocError, Global};
 
 /// What the numbering part and the styles part of the document say. `Err` means out of memory.
-pub(crate) fn package_tables(alloc: Global, pkg: &Package) -> Result<Tables, AllocError>
+pub fn package_tables(alloc: Global, pkg: &Package) -> Result<Tables, AllocError>
     ensures { IfOk result (λ tables. tables ≡ package_tables pkg.now) }
 {
     let numbering = held(alloc, pkg, b"/numbering")?;

@@ -5,19 +5,16 @@ ghost use Rattle.redl_tree.specs.Model.View.{item_of, kids_of, nodes_of, tag_of}
 ghost use Rattle.redl_tree.specs.Roles.Names.{is};
 ghost use Rattle.redl_numbering.specs.Counts.{Counts};
 ghost use Rattle.redl_numbering.specs.Known.{IsKnown};
-ghost use Rattle.redl_clauses.specs.Walks.{element_walked, left, paragraph_begun, paragraph_counted, walked};
+ghost use Rattle.redl_clauses.specs.Walks.{element_walked, left, paragraph_begun, walked};
 ghost use Rattle.redl_clauses.specs.Inside.Items.{item_walked};
 
-use crate::says::show_something;
+use crate::paragraph::count_paragraph;
 use crate::walked::Walk;
 use redl_lists::Own;
 use redl_numbering::{Counting, Lists};
 use redl_tree::{Elem, Node, Word, is_word};
 use std::alloc::{AllocError, Global};
 use std::mem;
-
-/// How many styles of a chain are looked at.
-const LONGEST_CHAIN: usize = 100;
 
 /// Walks over nodes. `Err` means out of memory, here and below.
 #[cycle(walk)]
@@ -119,24 +116,8 @@ fn begin_paragraph(
     requires { IsKnown lists.now }
     ensures { OnOk result (walk.new ≡ paragraph_begun lists.now.tables.now (kids_of elem.now) walk.old) }
 {
-    count(alloc, lists, elem, &mut walk.counting)?;
+    let own = Own::of(alloc, elem)?;
+    count_paragraph(alloc, lists, &own, elem, &mut walk.counting)?;
     let clause = walk.counting.here().copy(alloc)?;
     walk.settle(alloc, &clause)
-}
-
-// Counts a paragraph.
-fn count(
-    alloc: Global,
-    lists: &Lists<'_>,
-    elem: &Elem,
-    counting: &mut Counting,
-) -> Result<(), AllocError>
-    requires { IsKnown lists.now }
-    ensures { OnOk result (counting.new ≡ paragraph_counted lists.now.tables.now (kids_of elem.now) counting.old) }
-{
-    let own = Own::of(alloc, elem)?;
-    if own.ends_section && !show_something(elem.kids())? {
-        return counting.pass(alloc);
-    }
-    counting.count(alloc, lists, &own, LONGEST_CHAIN)
 }

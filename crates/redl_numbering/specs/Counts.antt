@@ -129,6 +129,10 @@ abbrev pub counts_with : Counts → Option Counted → Counts
 counts_with counts None = passed counts
 counts_with counts (Some found) = counted_more counts found
 
+-- the number of a paragraph with this num and level that was counted last of its list
+abbrev pub number_now : Counts → Counted → List ℕ
+number_now counts found = number_text found.overrides found.levels found.level (entry counts.values found.list no_values)
+
 -- after a paragraph that says this
 abbrev pub counts_after : Tables → ℕ → Counts → Own → Counts
 counts_after tables longest counts own = counts_with counts (counted tables longest own)

@@ -1,7 +1,9 @@
 //! The counting of numbered paragraphs.
 
 ghost use Rattle.std.specs.Prelude.{◌≡◌, ◌++◌, codes, IfOk, OnOk, Some};
-ghost use Rattle.redl_numbering.specs.Counts.{before, clause_by, counted_more, counts_after, entry, is_filled, no_values, nothing_counted, nothing_met, passed, saying};
+ghost use Rattle.redl_numbering.specs.Counts.{before, clause_by, counted_more, counts_after, entry, is_filled, no_values, nothing_counted, nothing_met, number_now, passed, saying};
+ghost use Rattle.redl_numbering.specs.Nums.{counted};
+ghost use Rattle.redl_reading.specs.Steps.{Gives};
 ghost use Rattle.redl_numbering.specs.Known.{IsKnown};
 ghost use Rattle.redl_numbering.specs.Inside.Founds.{found_as};
 
@@ -51,21 +53,40 @@ impl Counting {
         &self.here
     }
 
-    /// Counts a paragraph that says this. At most so many styles of its chain are looked at.
-    pub fn count(
+    /// Counts a paragraph that says this, and answers its num and its level. At most so many styles of its chain are looked at.
+    pub fn count<'t>(
         &mut self,
         alloc: Global,
-        lists: &Lists<'_>,
+        lists: &Lists<'t>,
         own: &Own,
         longest: usize,
-    ) -> Result<(), AllocError>
+    ) -> Result<Option<Found<'t>>, AllocError>
         requires { IsKnown lists.now }
-        ensures { OnOk result (self.new ≡ counts_after lists.now.tables.now longest self.old own.now) }
+        ensures counts { OnOk result (self.new ≡ counts_after lists.now.tables.now longest self.old own.now) }
+        ensures found { IfOk result (λ found. Gives found_as found (counted lists.now.tables.now longest own.now)) }
     {
         match lists.found(own, longest) {
-            Some(found) => self.count_found(alloc, found),
-            None => self.pass(alloc),
+            Some(found) => {
+                self.count_found(alloc, found)?;
+                Ok(Some(found))
+            }
+            None => {
+                self.pass(alloc)?;
+                Ok(None)
+            }
         }
+    }
+
+    /// The number of the paragraph that was counted last of its list.
+    pub fn number(&self, alloc: Global, found: Found<'_>) -> Result<Text, AllocError>
+        ensures { IfOk result (λ text. text ≡ number_now self.now (found_as found.entry)) }
+    {
+        let number = Numbered {
+            used: found.used,
+            level: found.level,
+            values: self.values_of(found.list),
+        };
+        number.text(alloc)
     }
 
     /// Goes past a paragraph that isn't counted, or past the end of one.

@@ -236,8 +236,8 @@ impl<'t> Lists<'t> {
         self.nums.place(id.as_bytes())
     }
 
-    // The place of the list of a num.
-    fn list_place(&self, num: &Num) -> Option<usize>
+    /// The place of the list of a num.
+    pub fn list_place(&self, num: &Num) -> Option<usize>
         requires { IsKnown self.now }
         ensures { result ≡ list_place self.now.tables.now num.now }
     {

@@ -29,7 +29,7 @@ fn at_place<T>(rows: &[Option<T>], place: usize) -> Option<&T>
 
 impl<'t> Used<'t> {
     /// A level.
-    pub(crate) fn level(&self, place: usize) -> Option<&'t Level>
+    pub fn level(&self, place: usize) -> Option<&'t Level>
         ensures { Gives (λ level. level.now) result (level_at self.now.overrides.now self.now.levels.now place) }
     {
         match self.own_level(place) {
@@ -48,7 +48,7 @@ impl<'t> Used<'t> {
     }
 
     /// Where a level begins anew under the num.
-    pub(crate) fn start_override(&self, place: usize) -> Option<Number>
+    pub fn start_override(&self, place: usize) -> Option<Number>
         ensures { result ≡ start_override self.now.overrides.now place }
     {
         match at_place(self.overrides, place) {
@@ -58,7 +58,7 @@ impl<'t> Used<'t> {
     }
 
     /// Where a level begins.
-    pub(crate) fn start(&self, place: usize) -> Number
+    pub fn start(&self, place: usize) -> Number
         ensures { result ≡ start_at self.now.overrides.now self.now.levels.now place }
     {
         match self.start_said(place) {
@@ -77,7 +77,7 @@ impl<'t> Used<'t> {
     }
 
     /// After which level a level begins again.
-    pub(crate) fn restart(&self, place: usize) -> Option<Number>
+    pub fn restart(&self, place: usize) -> Option<Number>
         ensures { result ≡ restart_at self.now.overrides.now self.now.levels.now place }
     {
         self.level(place)?.restart
