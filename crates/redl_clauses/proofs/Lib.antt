@@ -1,4 +1,5 @@
 pub mod WalkLaws
+pub mod ParagraphLaws
 pub mod StoryLaws
 pub mod ClauseLaws
 pub mod HeardLaws

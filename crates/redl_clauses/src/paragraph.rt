@@ -6,7 +6,7 @@ ghost use Rattle.redl_tree.specs.Model.View.{kids_of};
 ghost use Rattle.redl_lists.specs.Owns.{own_of};
 ghost use Rattle.redl_numbering.specs.Known.{IsKnown};
 ghost use Rattle.redl_numbering.specs.Inside.Founds.{found_as};
-ghost use Rattle.redl_clauses.specs.Walks.{paragraph_counted, paragraph_found};
+ghost use Rattle.redl_clauses.specs.Walks.{only_ends_section, paragraph_counted, paragraph_found};
 
 use crate::says::show_something;
 use redl_lists::Own;
@@ -30,9 +30,18 @@ pub fn count_paragraph<'t>(
     ensures counts { OnOk result (counting.new ≡ paragraph_counted lists.now.tables.now (kids_of paragraph.now) counting.old) }
     ensures found { IfOk result (λ found. Gives found_as found (paragraph_found lists.now.tables.now (kids_of paragraph.now))) }
 {
-    if own.ends_section && !show_something(paragraph.kids())? {
+    if only_ends_section(own, paragraph)? {
         counting.pass(alloc)?;
         return Ok(None);
     }
-    counting.count(alloc, lists, own, LONGEST_CHAIN)
+    let found = counting.count(alloc, lists, own, LONGEST_CHAIN)?;
+    Ok(found)
+}
+
+// Whether a paragraph that says this only ends a section, and a reader sees nothing of it.
+fn only_ends_section(own: &Own, paragraph: &Elem) -> Result<bool, AllocError>
+    requires { own.now ≡ own_of (kids_of paragraph.now) }
+    ensures { IfOk result (λ only. only ≡ only_ends_section (kids_of paragraph.now)) }
+{
+    Ok(own.ends_section && !show_something(paragraph.kids())?)
 }
