@@ -20,38 +20,38 @@ use Rattle.redl_kinds.specs.declared.selection.Selection.TheVariants as variants
 use Rattle.redl_kinds.specs.Views.{selection_of}
 use Rattle.redl_kinds.specs.declared.selection.Listed.{Listed}
 use Rattle.redl_kinds.specs.declared.selection.Listed.TheVariants.{One, Range}
-use Rattle.redl_kinds.specs.Selections.{Selection, all, numbers, author, span, kind, group, has_number}
+use Rattle.redl_kinds.specs.Selections.{Selection, all, numbers, author, span, kind, group, edits, has_number}
 use Rattle.redl_select.specs.Selections.{IsChosen, IsInRange, IsListed, chooses, revision_at, selects, numbers_between, listed_by, numbers_from, in_order, chosen}
 
 -- ---- the loops
 
 -- the numbers in one revision more
-numbers_from-push : (s : Selection) (n m : ℕ) (rs : List Revision) (r : Revision) → m ≡ n + length rs
-    → numbers_from s n (rs ++ r ∷ []) ≡ numbers_from s n rs ++ cond (selects s r) (m ∷ []) []
-numbers_from-push s n m [] r e = first (selects s r) where
+numbers_from-push : (s : Selection) (es : List ℕ) (n m : ℕ) (rs : List Revision) (r : Revision) → m ≡ n + length rs
+    → numbers_from s es n (rs ++ r ∷ []) ≡ numbers_from s es n rs ++ cond (selects s es r) (m ∷ []) []
+numbers_from-push s es n m [] r e = first (selects s es r) where
   first : (t : Bool) → cond {A = List ℕ} t (n ∷ []) [] ≡ cond t (m ∷ []) []
   first true = let same : n ≡ m = omega arith in ap (λ (k : ℕ). k ∷ []) same
   first false = refl
-numbers_from-push s n m (q ∷ rs) r e =
-    step (selects s q) (numbers_from s (n + 1) (rs ++ r ∷ [])) (numbers_from s (n + 1) rs) (cond (selects s r) (m ∷ []) [])
-    (numbers_from-push s (n + 1) m rs r (omega arith)) where
+numbers_from-push s es n m (q ∷ rs) r e =
+    step (selects s es q) (numbers_from s es (n + 1) (rs ++ r ∷ [])) (numbers_from s es (n + 1) rs) (cond (selects s es r) (m ∷ []) [])
+    (numbers_from-push s es (n + 1) m rs r (omega arith)) where
       step : (t : Bool) (a b c : List ℕ) → a ≡ b ++ c → cond t (n ∷ a) a ≡ cond t (n ∷ b) b ++ c
       step true a b c h = ap (λ (l : List ℕ). n ∷ l) h
       step false a b c h = h
 
-pub one_more : (s : Selection) (rs : List Revision) (place number : ℕ) (t : Bool) → place < length rs → number ≡ place + 1
-    → ((r : Revision) → slice_get rs (number - 1) ≡ Some r → 0 < number → t ≡ selects s r)
-    → numbers_from s 1 (take (place + 1) rs) ≡ numbers_from s 1 (take place rs) ++ cond t (number ∷ []) []
-one_more s [] place number t within is h = absurd (omega arith)
-one_more s (q ∷ qs) place number t within is h =
+pub one_more : (s : Selection) (es : List ℕ) (rs : List Revision) (place number : ℕ) (t : Bool) → place < length rs → number ≡ place + 1
+    → ((r : Revision) → slice_get rs (number - 1) ≡ Some r → 0 < number → t ≡ selects s es r)
+    → numbers_from s es 1 (take (place + 1) rs) ≡ numbers_from s es 1 (take place rs) ++ cond t (number ∷ []) []
+one_more s es [] place number t within is h = absurd (omega arith)
+one_more s es (q ∷ qs) place number t within is h =
     let rs : List Revision = q ∷ qs in
     let r : Revision = get_or rs place q in
     let at : number - 1 ≡ place = omega arith in
     let found : slice_get rs (number - 1) ≡ Some r = rw at (slice_get-get_or rs place q within) in
-    let test : t ≡ selects s r = h r found (omega arith) in
+    let test : t ≡ selects s es r = h r found (omega arith) in
     let size : number ≡ 1 + length (take place rs) = omega (arith, is, length-take-le place rs (omega (arith, within))) in
-    ap (numbers_from s 1) (take_more rs place q within) ∙ numbers_from-push s 1 number (take place rs) r size
-    ∙ ap (λ (b : Bool). numbers_from s 1 (take place rs) ++ cond b (number ∷ []) []) (sym test)
+    ap (numbers_from s es 1) (take_more rs place q within) ∙ numbers_from-push s es 1 number (take place rs) r size
+    ∙ ap (λ (b : Bool). numbers_from s es 1 (take place rs) ++ cond b (number ∷ []) []) (sym test)
 
 -- one number more of a range
 pub range_more : (first size : ℕ) → range_with_len first (suc size) ≡ range_with_len first size ++ (first + size) ∷ []
@@ -65,20 +65,20 @@ range_more first (suc size) =
 pub nat_less : (m n : ℕ) → m < n → nat_cmp m n ≡ Less
 nat_less m n h = sym (nat_cmp_is m n Less h)
 
-numbers_above : (s : Selection) (low n : ℕ) (rs : List Revision) → low < n → AllByRecursion (λ y. nat_cmp low y ≡ Less) (numbers_from s n rs)
-numbers_above s low n [] h = tt
-numbers_above s low n (r ∷ rs) h = step (selects s r) (numbers_above s low (n + 1) rs (omega arith)) where
-  step : (t : Bool) → AllByRecursion (λ y. nat_cmp low y ≡ Less) (numbers_from s (n + 1) rs)
-      → AllByRecursion (λ y. nat_cmp low y ≡ Less) (cond t (n ∷ numbers_from s (n + 1) rs) (numbers_from s (n + 1) rs))
+numbers_above : (s : Selection) (es : List ℕ) (low n : ℕ) (rs : List Revision) → low < n → AllByRecursion (λ y. nat_cmp low y ≡ Less) (numbers_from s es n rs)
+numbers_above s es low n [] h = tt
+numbers_above s es low n (r ∷ rs) h = step (selects s es r) (numbers_above s es low (n + 1) rs (omega arith)) where
+  step : (t : Bool) → AllByRecursion (λ y. nat_cmp low y ≡ Less) (numbers_from s es (n + 1) rs)
+      → AllByRecursion (λ y. nat_cmp low y ≡ Less) (cond t (n ∷ numbers_from s es (n + 1) rs) (numbers_from s es (n + 1) rs))
   step true more = (nat_less low n h, more)
   step false more = more
 
-pub numbers_sorted : (s : Selection) (n : ℕ) (rs : List Revision) → IsStrictlySortedBy nat_cmp (numbers_from s n rs)
+pub numbers_sorted : (s : Selection) (es : List ℕ) (n : ℕ) (rs : List Revision) → IsStrictlySortedBy nat_cmp (numbers_from s es n rs)
 unfolding IsStrictlySortedBy
-numbers_sorted s n [] = tt
-numbers_sorted s n (r ∷ rs) = step (selects s r) (numbers_sorted s (n + 1) rs) (numbers_above s n (n + 1) rs (omega arith)) where
-  step : (t : Bool) → IsStrictlySortedBy nat_cmp (numbers_from s (n + 1) rs) → AllByRecursion (λ y. nat_cmp n y ≡ Less) (numbers_from s (n + 1) rs)
-      → IsStrictlySortedBy nat_cmp (cond t (n ∷ numbers_from s (n + 1) rs) (numbers_from s (n + 1) rs))
+numbers_sorted s es n [] = tt
+numbers_sorted s es n (r ∷ rs) = step (selects s es r) (numbers_sorted s es (n + 1) rs) (numbers_above s es n (n + 1) rs (omega arith)) where
+  step : (t : Bool) → IsStrictlySortedBy nat_cmp (numbers_from s es (n + 1) rs) → AllByRecursion (λ y. nat_cmp n y ≡ Less) (numbers_from s es (n + 1) rs)
+      → IsStrictlySortedBy nat_cmp (cond t (n ∷ numbers_from s es (n + 1) rs) (numbers_from s es (n + 1) rs))
   step true more above = (above, more)
   step false more above = more
 
@@ -99,50 +99,50 @@ there x y xs h = at h.0 h.1 h.2 where
 -- ---- the members of what is chosen among revisions
 
 -- the selection means the revision at this place
-abbrev IsAt : Selection → List Revision → ℕ → Type 0
-IsAt s rs place = IsSomeAnd (slice_get rs place) (λ r. IsTrue (selects s r))
+abbrev IsAt : Selection → List ℕ → List Revision → ℕ → Type 0
+IsAt s es rs place = IsSomeAnd (slice_get rs place) (λ r. IsTrue (selects s es r))
 
-meant : (s : Selection) (n k : ℕ) (rs : List Revision) → Contains (numbers_from s n rs) k → (place : ℕ) × (k ≡ n + place) × IsAt s rs place
-meant s n k [] h = absurd (omega (arith, h.1))
-meant s n k (r ∷ rs) h = step (selects s r) refl (meant s (n + 1) k rs) h where
-  after : (place : ℕ) × (k ≡ (n + 1) + place) × IsAt s rs place → (place : ℕ) × (k ≡ n + place) × IsAt s (r ∷ rs) place
+meant : (s : Selection) (es : List ℕ) (n k : ℕ) (rs : List Revision) → Contains (numbers_from s es n rs) k → (place : ℕ) × (k ≡ n + place) × IsAt s es rs place
+meant s es n k [] h = absurd (omega (arith, h.1))
+meant s es n k (r ∷ rs) h = step (selects s es r) refl (meant s es (n + 1) k rs) h where
+  after : (place : ℕ) × (k ≡ (n + 1) + place) × IsAt s es rs place → (place : ℕ) × (k ≡ n + place) × IsAt s es (r ∷ rs) place
   after w = (suc w.0, omega (arith, w.1), w.2)
 
-  step : (t : Bool) → selects s r ≡ t → (Contains (numbers_from s (n + 1) rs) k → (place : ℕ) × (k ≡ (n + 1) + place) × IsAt s rs place)
-      → Contains (cond t (n ∷ numbers_from s (n + 1) rs) (numbers_from s (n + 1) rs)) k → (place : ℕ) × (k ≡ n + place) × IsAt s (r ∷ rs) place
+  step : (t : Bool) → selects s es r ≡ t → (Contains (numbers_from s es (n + 1) rs) k → (place : ℕ) × (k ≡ (n + 1) + place) × IsAt s es rs place)
+      → Contains (cond t (n ∷ numbers_from s es (n + 1) rs) (numbers_from s es (n + 1) rs)) k → (place : ℕ) × (k ≡ n + place) × IsAt s es (r ∷ rs) place
   step true is rec h =
-      elim (there n k (numbers_from s (n + 1) rs) h) [
+      elim (there n k (numbers_from s es (n + 1) rs) h) [
         | inl same ↦ (0, omega (arith, same), is)
         | inr later ↦ after (rec later)
       ]
   step false is rec h = after (rec h)
 
-number_there : (s : Selection) (n place : ℕ) (rs : List Revision) → IsAt s rs place → Contains (numbers_from s n rs) (n + place)
-number_there s n place [] h = absurd h
-number_there s n zero (r ∷ rs) h = rw h (subst (λ (k : ℕ). Contains (n ∷ numbers_from s (n + 1) rs) k) (omega arith) (head_there n (numbers_from s (n + 1) rs)))
-number_there s n (suc place) (r ∷ rs) h =
+number_there : (s : Selection) (es : List ℕ) (n place : ℕ) (rs : List Revision) → IsAt s es rs place → Contains (numbers_from s es n rs) (n + place)
+number_there s es n place [] h = absurd h
+number_there s es n zero (r ∷ rs) h = rw h (subst (λ (k : ℕ). Contains (n ∷ numbers_from s es (n + 1) rs) k) (omega arith) (head_there n (numbers_from s es (n + 1) rs)))
+number_there s es n (suc place) (r ∷ rs) h =
     let same : (n + 1) + place ≡ n + suc place = omega arith in
-    let rest : Contains (numbers_from s (n + 1) rs) (n + suc place) = subst (λ (k : ℕ). Contains (numbers_from s (n + 1) rs) k) same (number_there s (n + 1) place rs h) in
-    step (selects s r) rest where
-      step : (t : Bool) → Contains (numbers_from s (n + 1) rs) (n + suc place) → Contains (cond t (n ∷ numbers_from s (n + 1) rs) (numbers_from s (n + 1) rs)) (n + suc place)
-      step true rest = later_there n (n + suc place) (numbers_from s (n + 1) rs) rest
+    let rest : Contains (numbers_from s es (n + 1) rs) (n + suc place) = subst (λ (k : ℕ). Contains (numbers_from s es (n + 1) rs) k) same (number_there s es (n + 1) place rs h) in
+    step (selects s es r) rest where
+      step : (t : Bool) → Contains (numbers_from s es (n + 1) rs) (n + suc place) → Contains (cond t (n ∷ numbers_from s es (n + 1) rs) (numbers_from s es (n + 1) rs)) (n + suc place)
+      step true rest = later_there n (n + suc place) (numbers_from s es (n + 1) rs) rest
       step false rest = rest
 
 -- a number is in the list where the selection means the revision that has it
-abbrev IsMeant : Selection → List Revision → ℕ → Type 0
-IsMeant s rs number = IsSomeAnd (revision_at rs number) (λ r. IsTrue (selects s r))
+abbrev IsMeant : Selection → List ℕ → List Revision → ℕ → Type 0
+IsMeant s es rs number = IsSomeAnd (revision_at rs number) (λ r. IsTrue (selects s es r))
 
-meant_numbers : (s : Selection) (rs : List Revision) (number : ℕ) → Contains (numbers_from s 1 rs) number ↔ IsMeant s rs number
-meant_numbers s rs number = (to number, from number) where
-  to : (number : ℕ) → Contains (numbers_from s 1 rs) number → IsMeant s rs number
+meant_numbers : (s : Selection) (es : List ℕ) (rs : List Revision) (number : ℕ) → Contains (numbers_from s es 1 rs) number ↔ IsMeant s es rs number
+meant_numbers s es rs number = (to number, from number) where
+  to : (number : ℕ) → Contains (numbers_from s es 1 rs) number → IsMeant s es rs number
   to number h =
-      let w = meant s 1 number rs h in
+      let w = meant s es 1 number rs h in
       let e : suc w.0 ≡ number = omega (arith, w.1) in
-      subst (IsMeant s rs) e w.2
+      subst (IsMeant s es rs) e w.2
 
-  from : (number : ℕ) → IsMeant s rs number → Contains (numbers_from s 1 rs) number
+  from : (number : ℕ) → IsMeant s es rs number → Contains (numbers_from s es 1 rs) number
   from zero h = absurd h
-  from (suc place) h = subst (Contains (numbers_from s 1 rs)) (omega arith) (number_there s 1 place rs h)
+  from (suc place) h = subst (Contains (numbers_from s es 1 rs)) (omega arith) (number_there s es 1 place rs h)
 
 -- ---- the members of a list in order
 
@@ -299,13 +299,14 @@ listed_numbers count items number =
 
 -- ---- both
 
-pub chosen_numbers : (rs : List Revision) (s : Selection) (number : ℕ) → Contains (chosen rs s) number ↔ IsChosen rs s number
-chosen_numbers rs all number = meant_numbers all rs number
-chosen_numbers rs (numbers listed) number = listed_numbers (length rs) listed number
-chosen_numbers rs (author name) number = meant_numbers (author name) rs number
-chosen_numbers rs (span start end) number = meant_numbers (span start end) rs number
-chosen_numbers rs (kind of_kind) number = meant_numbers (kind of_kind) rs number
-chosen_numbers rs (group of_group) number = meant_numbers (group of_group) rs number
+pub chosen_numbers : (rs : List Revision) (s : Selection) (es : List ℕ) (number : ℕ) → Contains (chosen rs es s) number ↔ IsChosen rs es s number
+chosen_numbers rs all es number = meant_numbers all es rs number
+chosen_numbers rs (numbers listed) es number = listed_numbers (length rs) listed number
+chosen_numbers rs (author name) es number = meant_numbers (author name) es rs number
+chosen_numbers rs (span start end) es number = meant_numbers (span start end) es rs number
+chosen_numbers rs (kind of_kind) es number = meant_numbers (kind of_kind) es rs number
+chosen_numbers rs (group of_group) es number = meant_numbers (group of_group) es rs number
+chosen_numbers rs (edits listed) es number = meant_numbers (edits listed) es rs number
 
 -- ---- one revision
 
@@ -339,22 +340,24 @@ number_within : (rs : List Revision) (number : ℕ) (r : Revision) → revision_
 number_within rs zero r e = absurd cc
 number_within rs (suc place) r e = slice_get_within rs place r e
 
-pub chooses_chosen : (s : Selection) (r : Revision) (rs : List Revision) → revision_at rs r.number ≡ Some r → IsTrue (chooses s r) ↔ IsChosen rs s r.number
-chooses_chosen all r rs e = rw e (λ h. h, λ h. h)
-chooses_chosen (numbers listed) r rs e = listed_any (length rs) r.number listed (number_within rs r.number r e)
-chooses_chosen (author name) r rs e = rw e (λ h. h, λ h. h)
-chooses_chosen (span start end) r rs e = rw e (λ h. h, λ h. h)
-chooses_chosen (kind of_kind) r rs e = rw e (λ h. h, λ h. h)
-chooses_chosen (group of_group) r rs e = rw e (λ h. h, λ h. h)
+pub chooses_chosen : (s : Selection) (es : List ℕ) (r : Revision) (rs : List Revision) → revision_at rs r.number ≡ Some r → IsTrue (chooses s es r) ↔ IsChosen rs es s r.number
+chooses_chosen all es r rs e = rw e (λ h. h, λ h. h)
+chooses_chosen (numbers listed) es r rs e = listed_any (length rs) r.number listed (number_within rs r.number r e)
+chooses_chosen (author name) es r rs e = rw e (λ h. h, λ h. h)
+chooses_chosen (span start end) es r rs e = rw e (λ h. h, λ h. h)
+chooses_chosen (kind of_kind) es r rs e = rw e (λ h. h, λ h. h)
+chooses_chosen (group of_group) es r rs e = rw e (λ h. h, λ h. h)
+chooses_chosen (edits listed) es r rs e = rw e (λ h. h, λ h. h)
 
 -- where no numbers are listed
-pub chooses_unlisted : (r : Revision) (s : Selection) → ((listed : List Listed) → s ≡ numbers listed → ⊥) → selects s r ≡ chooses s r
-chooses_unlisted r all h = refl
-chooses_unlisted r (numbers listed) h = absurd (h listed refl)
-chooses_unlisted r (author name) h = refl
-chooses_unlisted r (span start end) h = refl
-chooses_unlisted r (kind of_kind) h = refl
-chooses_unlisted r (group of_group) h = refl
+pub chooses_unlisted : (r : Revision) (s : Selection) (es : List ℕ) → ((listed : List Listed) → s ≡ numbers listed → ⊥) → selects s es r ≡ chooses s es r
+chooses_unlisted r all es h = refl
+chooses_unlisted r (numbers listed) es h = absurd (h listed refl)
+chooses_unlisted r (author name) es h = refl
+chooses_unlisted r (span start end) es h = refl
+chooses_unlisted r (kind of_kind) es h = refl
+chooses_unlisted r (group of_group) es h = refl
+chooses_unlisted r (edits listed) es h = refl
 
 -- ---- the same from the facts of the code
 
@@ -362,28 +365,29 @@ pub ascending_ok : {E : Type 0} (r : Result (Vec ℕ Global) E) → IfOk r (λ v
 ascending_ok (Ok v) h = IsStrictlyIncreasing-from_sorted v.items h
 ascending_ok (Err e) h = tt
 
-pub meant_ascending : {E : Type 0} (r : Result (Vec ℕ Global) E) (s : Selection) (rs : List Revision) → IfOk r (λ v. v.items ≡ numbers_from s 1 rs) → IfOk r (λ v. IsStrictlyIncreasing v.items)
-meant_ascending (Ok v) s rs h = IsStrictlyIncreasing-from_sorted v.items (subst (IsStrictlySortedBy nat_cmp) (sym h) (numbers_sorted s 1 rs))
-meant_ascending (Err e) s rs h = tt
+pub meant_ascending : {E : Type 0} (r : Result (Vec ℕ Global) E) (s : Selection) (es : List ℕ) (rs : List Revision) → IfOk r (λ v. v.items ≡ numbers_from s es 1 rs) → IfOk r (λ v. IsStrictlyIncreasing v.items)
+meant_ascending (Ok v) s es rs h = IsStrictlyIncreasing-from_sorted v.items (subst (IsStrictlySortedBy nat_cmp) (sym h) (numbers_sorted s es 1 rs))
+meant_ascending (Err e) s es rs h = tt
 
-pub chosen_ok : {E : Type 0} (r : Result (Vec ℕ Global) E) (rs : List Revision) (s : Selection) → IfOk r (λ v. v.items ≡ chosen rs s)
-    → IfOk r (λ v. (number : ℕ) → Contains v.items number ↔ IsChosen rs s number)
-chosen_ok (Ok v) rs s h = λ number. subst (λ (xs : List ℕ). Contains xs number ↔ IsChosen rs s number) (sym h) (chosen_numbers rs s number)
-chosen_ok (Err e) rs s h = tt
+pub chosen_ok : {E : Type 0} (r : Result (Vec ℕ Global) E) (rs : List Revision) (s : Selection) (es : List ℕ) → IfOk r (λ v. v.items ≡ chosen rs es s)
+    → IfOk r (λ v. (number : ℕ) → Contains v.items number ↔ IsChosen rs es s number)
+chosen_ok (Ok v) rs s es h = λ number. subst (λ (xs : List ℕ). Contains xs number ↔ IsChosen rs es s number) (sym h) (chosen_numbers rs s es number)
+chosen_ok (Err e) rs s es h = tt
 
 -- where no numbers are listed
-unlisted : (rs : List Revision) (s : Selection) → ((listed : List Listed) → s ≡ numbers listed → ⊥) → numbers_from s 1 rs ≡ chosen rs s
-unlisted rs all h = refl
-unlisted rs (numbers listed) h = absurd (h listed refl)
-unlisted rs (author name) h = refl
-unlisted rs (span start end) h = refl
-unlisted rs (kind of_kind) h = refl
-unlisted rs (group of_group) h = refl
+unlisted : (rs : List Revision) (s : Selection) (es : List ℕ) → ((listed : List Listed) → s ≡ numbers listed → ⊥) → numbers_from s es 1 rs ≡ chosen rs es s
+unlisted rs all es h = refl
+unlisted rs (numbers listed) es h = absurd (h listed refl)
+unlisted rs (author name) es h = refl
+unlisted rs (span start end) es h = refl
+unlisted rs (kind of_kind) es h = refl
+unlisted rs (group of_group) es h = refl
+unlisted rs (edits listed) es h = refl
 
-pub unlisted_ok : {E : Type 0} (r : Result (Vec ℕ Global) E) (rs : List Revision) (s : Selection) → ((listed : List Listed) → s ≡ numbers listed → ⊥)
-    → IfOk r (λ v. v.items ≡ numbers_from s 1 rs) → IfOk r (λ v. v.items ≡ chosen rs s)
-unlisted_ok (Ok v) rs s h e = e ∙ unlisted rs s h
-unlisted_ok (Err x) rs s h e = tt
+pub unlisted_ok : {E : Type 0} (r : Result (Vec ℕ Global) E) (rs : List Revision) (s : Selection) (es : List ℕ) → ((listed : List Listed) → s ≡ numbers listed → ⊥)
+    → IfOk r (λ v. v.items ≡ numbers_from s es 1 rs) → IfOk r (λ v. v.items ≡ chosen rs es s)
+unlisted_ok (Ok v) rs s es h e = e ∙ unlisted rs s es h
+unlisted_ok (Err x) rs s es h e = tt
 
 pub not_listed : (s : code.Selection) → ((v : Vec Listed Global) → s ≡ variants.Numbers v → ⊥) → (listed : List Listed) → selection_of s ≡ numbers listed → ⊥
 not_listed variants.All h listed e = cc
@@ -392,3 +396,4 @@ not_listed (variants.Author name) h listed e = cc
 not_listed (variants.Span start end) h listed e = cc
 not_listed (variants.Kind of_kind) h listed e = cc
 not_listed (variants.Group of_group) h listed e = cc
+not_listed (variants.Edits v) h listed e = cc

@@ -10,7 +10,7 @@ use Rattle.redl_kinds.specs.declared.selection.Listed.TheVariants.{One, Range}
 use Rattle.redl_kinds.specs.Groups.{is_in}
 use Rattle.redl_select.specs.declared.in_order.Bounds.{Bounds}
 use Rattle.redl_kinds.specs.Kinds.{is_same_kind}
-use Rattle.redl_kinds.specs.Selections.{Selection, all, numbers, author, span, kind, group, has_number}
+use Rattle.redl_kinds.specs.Selections.{Selection, all, numbers, author, span, kind, group, edits, has_number}
 
 -- ---- the revisions that a selection means
 
@@ -19,14 +19,26 @@ abbrev pub is_within : ℤ → ℤ → Option ℤ → Bool
 is_within start end None = false
 is_within start end (Some moment) = int_le start moment && int_lt moment end
 
--- The selection means this revision. A list of numbers means numbers, and is no test of revisions.
-abbrev pub selects : Selection → Revision → Bool
-selects all revision = true
-selects (numbers listed) revision = false
-selects (author name) revision = bytes_eq revision.author name
-selects (span start end) revision = is_within start end revision.seconds
-selects (kind of_kind) revision = is_same_kind revision.kind of_kind
-selects (group of_group) revision = is_in of_group revision.kind
+-- the edit of the revision with this number, where the edit of each is in the order of the numbers; numbers count from 1
+abbrev pub edit_at : List ℕ → ℕ → Option ℕ
+edit_at each_edit zero = None
+edit_at each_edit (suc place) = slice_get each_edit place
+
+-- an item has the number of this edit; where there is no edit none has it
+abbrev pub is_of : List Listed → Option ℕ → Bool
+is_of listed None = false
+is_of listed (Some edit) = list_any (has_number edit) listed
+
+-- The selection means this revision, where the edit of each is in the order of the numbers. A list of numbers means numbers, and is
+-- no test of revisions. A list of edits means the revisions whose edit has one of its numbers.
+abbrev pub selects : Selection → List ℕ → Revision → Bool
+selects all each_edit revision = true
+selects (numbers listed) each_edit revision = false
+selects (author name) each_edit revision = bytes_eq revision.author name
+selects (span start end) each_edit revision = is_within start end revision.seconds
+selects (kind of_kind) each_edit revision = is_same_kind revision.kind of_kind
+selects (group of_group) each_edit revision = is_in of_group revision.kind
+selects (edits listed) each_edit revision = is_of listed (edit_at each_edit revision.number)
 
 -- ---- the set of numbers that are chosen
 
@@ -49,24 +61,25 @@ IsListed count number (One one) = one ≡ number
 IsListed count number (Range first last) = IsInRange count first last number
 
 -- the selection chooses this number: an item of its list does, or the selection means the revision that has it
-abbrev pub IsChosen : List Revision → Selection → ℕ → Type 0
-IsChosen revisions (numbers listed) number = Any (IsListed (length revisions) number) listed
-IsChosen revisions selection number = IsSomeAnd (revision_at revisions number) (λ revision. IsTrue (selects selection revision))
+abbrev pub IsChosen : List Revision → List ℕ → Selection → ℕ → Type 0
+IsChosen revisions each_edit (numbers listed) number = Any (IsListed (length revisions) number) listed
+IsChosen revisions each_edit selection number = IsSomeAnd (revision_at revisions number) (λ revision. IsTrue (selects selection each_edit revision))
 
 -- ---- the same of one revision
 
 -- the selection chooses this revision
-abbrev pub chooses : Selection → Revision → Bool
-chooses (numbers listed) revision = list_any (has_number revision.number) listed
-chooses selection revision = selects selection revision
+abbrev pub chooses : Selection → List ℕ → Revision → Bool
+chooses (numbers listed) each_edit revision = list_any (has_number revision.number) listed
+chooses selection each_edit revision = selects selection each_edit revision
 
 -- ---- the same numbers as a list
 
 -- the numbers of the revisions that the selection means, where the first of these has this number
-abbrev pub numbers_from : Selection → ℕ → List Revision → List ℕ
-numbers_from selection number [] = []
-numbers_from selection number (revision ∷ later) =
-    if selects selection revision then number ∷ numbers_from selection (number + 1) later else numbers_from selection (number + 1) later
+abbrev pub numbers_from : Selection → List ℕ → ℕ → List Revision → List ℕ
+numbers_from selection each_edit number [] = []
+numbers_from selection each_edit number (revision ∷ later) =
+    let numbers_later = numbers_from selection each_edit (number + 1) later in
+    if selects selection each_edit revision then number ∷ numbers_later else numbers_later
 
 -- the numbers from the first to the last
 abbrev pub numbers_between : ℕ → ℕ → List ℕ
@@ -82,9 +95,9 @@ abbrev pub in_order : List ℕ → List ℕ
 in_order listed = fold (insert_key nat_cmp) [] listed
 
 -- the numbers that the selection chooses
-abbrev pub chosen : List Revision → Selection → List ℕ
-chosen revisions (numbers listed) = in_order (flat_map (listed_by (length revisions)) listed)
-chosen revisions selection = numbers_from selection 1 revisions
+abbrev pub chosen : List Revision → List ℕ → Selection → List ℕ
+chosen revisions each_edit (numbers listed) = in_order (flat_map (listed_by (length revisions)) listed)
+chosen revisions each_edit selection = numbers_from selection each_edit 1 revisions
 
 -- ---- how the code finds what items list
 

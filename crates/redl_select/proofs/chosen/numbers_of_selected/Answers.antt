@@ -10,9 +10,9 @@ loop-place-preserved c =
     let number : ℕ = c.loop-place.place + 1 in
     elim c.if-selects_number.branch [
       | then-selects_number+in_ok-push w ↦
-          let more = one_more (selection_of c.args.sel.now) c.args.index.now c.loop-place.place number true within refl (λ r is above. sym w.if-selects_number.true ∙ c.selects_number.ensures r is above) in
+          let more = one_more (selection_of c.args.sel.now) c.args.edits.now c.args.index.now c.loop-place.place number true within refl (λ r is above. sym w.if-selects_number.true ∙ c.selects_number.ensures r is above) in
           ap (λ (v : Vec ℕ Global). v.items) w.numbers-is ∙ w.in_ok-push.ensures.items ∙ ap (λ (l : List ℕ). l ++ number ∷ []) c.loop-place.invariant ∙ sym more
       | else-selects_number w ↦
-          let more = one_more (selection_of c.args.sel.now) c.args.index.now c.loop-place.place number false within refl (λ r is above. sym w.if-selects_number.false ∙ c.selects_number.ensures r is above) in
+          let more = one_more (selection_of c.args.sel.now) c.args.edits.now c.args.index.now c.loop-place.place number false within refl (λ r is above. sym w.if-selects_number.false ∙ c.selects_number.ensures r is above) in
           ap (λ (v : Vec ℕ Global). v.items) w.numbers-is ∙ c.loop-place.invariant ∙ sym (append-nil _) ∙ sym more
     ]
