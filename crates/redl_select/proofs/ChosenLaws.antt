@@ -21,7 +21,7 @@ use Rattle.redl_kinds.specs.Views.{selection_of}
 use Rattle.redl_kinds.specs.declared.selection.Listed.{Listed}
 use Rattle.redl_kinds.specs.declared.selection.Listed.TheVariants.{One, Range}
 use Rattle.redl_kinds.specs.Selections.{Selection, all, numbers, author, span, kind, group, edits, has_number}
-use Rattle.redl_select.specs.Selections.{IsChosen, IsInRange, IsListed, chooses, revision_at, selects, numbers_between, listed_by, numbers_from, in_order, chosen}
+use Rattle.redl_select.specs.Selections.{IsChosen, IsInRange, IsListed, asks_edits, chooses, revision_at, selects, numbers_between, listed_by, numbers_from, in_order, chosen}
 
 -- ---- the loops
 
@@ -397,3 +397,38 @@ not_listed (variants.Span start end) h listed e = cc
 not_listed (variants.Kind of_kind) h listed e = cc
 not_listed (variants.Group of_group) h listed e = cc
 not_listed (variants.Edits v) h listed e = cc
+
+-- ---- a selection that doesn't ask for edits
+
+selects-unasked : (s : Selection) (es fs : List ℕ) (r : Revision) → asks_edits s ≡ false → selects s es r ≡ selects s fs r
+selects-unasked all es fs r h = refl
+selects-unasked (numbers listed) es fs r h = refl
+selects-unasked (author name) es fs r h = refl
+selects-unasked (span start end) es fs r h = refl
+selects-unasked (kind of_kind) es fs r h = refl
+selects-unasked (group of_group) es fs r h = refl
+selects-unasked (edits listed) es fs r h = absurd cc
+
+numbers_from-unasked : (s : Selection) (es fs : List ℕ) (n : ℕ) (rs : List Revision) → asks_edits s ≡ false → numbers_from s es n rs ≡ numbers_from s fs n rs
+numbers_from-unasked s es fs n [] h = refl
+numbers_from-unasked s es fs n (r ∷ rs) h = rw (selects-unasked s es fs r h, numbers_from-unasked s es fs (n + 1) rs h) refl
+
+-- by any edits it chooses the same numbers
+pub chosen-unasked : (rs : List Revision) (es fs : List ℕ) (s : Selection) → asks_edits s ≡ false → chosen rs es s ≡ chosen rs fs s
+chosen-unasked rs es fs all h = numbers_from-unasked all es fs 1 rs h
+chosen-unasked rs es fs (numbers listed) h = refl
+chosen-unasked rs es fs (author name) h = numbers_from-unasked (author name) es fs 1 rs h
+chosen-unasked rs es fs (span start end) h = numbers_from-unasked (span start end) es fs 1 rs h
+chosen-unasked rs es fs (kind of_kind) h = numbers_from-unasked (kind of_kind) es fs 1 rs h
+chosen-unasked rs es fs (group of_group) h = numbers_from-unasked (group of_group) es fs 1 rs h
+chosen-unasked rs es fs (edits listed) h = absurd cc
+
+-- and the same revisions
+pub chooses-unasked : (s : Selection) (es fs : List ℕ) (r : Revision) → asks_edits s ≡ false → chooses s es r ≡ chooses s fs r
+chooses-unasked all es fs r h = refl
+chooses-unasked (numbers listed) es fs r h = refl
+chooses-unasked (author name) es fs r h = refl
+chooses-unasked (span start end) es fs r h = refl
+chooses-unasked (kind of_kind) es fs r h = refl
+chooses-unasked (group of_group) es fs r h = refl
+chooses-unasked (edits listed) es fs r h = absurd cc

@@ -40,6 +40,11 @@ selects (kind of_kind) each_edit revision = is_same_kind revision.kind of_kind
 selects (group of_group) each_edit revision = is_in of_group revision.kind
 selects (edits listed) each_edit revision = is_of listed (edit_at each_edit revision.number)
 
+-- it lists edits: no other selection depends on them
+abbrev pub asks_edits : Selection → Bool
+asks_edits (edits listed) = true
+asks_edits _ = false
+
 -- ---- the set of numbers that are chosen
 
 -- the revision with this number, if there is one; numbers count from 1

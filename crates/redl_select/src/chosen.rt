@@ -5,7 +5,7 @@ ghost use Rattle.std.specs.List.{list_any};
 ghost use Rattle.std.specs.List.Sorted.{IsStrictlyIncreasing};
 ghost use Rattle.redl_index.specs.declared.revision.Revision.{Revision};
 ghost use Rattle.redl_kinds.specs.Selections.{has_number};
-ghost use Rattle.redl_select.specs.Selections.{IsChosen, chooses, chosen, edit_at, is_of, is_within, numbers_from, revision_at, selects};
+ghost use Rattle.redl_select.specs.Selections.{IsChosen, asks_edits, chooses, chosen, edit_at, is_of, is_within, numbers_from, revision_at, selects};
 ghost use Rattle.redl_kinds.specs.Views.{selection_of};
 
 use crate::in_order::in_order;
@@ -111,6 +111,13 @@ fn is_of(listed: &[Listed], edit: Option<u32>) -> bool
     ensures { result ≡ is_of listed.now edit }
 {
     edit.is_some_and(|edit| is_among(listed, edit))
+}
+
+/// Whether the selection depends on the edits of revisions. Where it doesn't, it chooses the same by any edits.
+pub fn asks_edits(sel: &Selection) -> bool
+    ensures { result ≡ asks_edits (selection_of sel.now) }
+{
+    matches!(sel, Selection::Edits(_))
 }
 
 /// Whether the moment is from the first on and before the second. Without a moment it isn't.

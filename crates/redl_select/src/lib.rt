@@ -10,5 +10,5 @@ mod chosen;
 mod in_order;
 mod locks;
 
-pub use chosen::{choose, chooses};
+pub use chosen::{asks_edits, choose, chooses};
 pub use locks::{any_holds, holds};
