@@ -27,7 +27,7 @@ use Rattle.redl_kinds.specs.declared.group.Group.{Group}
 use Rattle.redl_kinds.specs.declared.group.Group.TheVariants as groups
 use Rattle.redl_kinds.specs.declared.selection.Listed.{Listed}
 use Rattle.redl_kinds.specs.declared.selection.Listed.TheVariants.{One, Range}
-use Rattle.redl_kinds.specs.Selections.{Selection, all, numbers, author, span, kind, group}
+use Rattle.redl_kinds.specs.Selections.{Selection, all, numbers, author, span, kind, group, edits}
 use Rattle.redl_words.specs.Selections.{IsItem, ListsNumbers, GivesSpan, GivesDates, NamesKind, Means, group_name, item_text}
 use Rattle.redl_words.specs.Reading.Selections.{range_in, item_parts, item_in, numbers_after, numbers_in, group_named, kind_or, kinds_in, moments_in, span_in, labelled, selection_parts, selection_in}
 use Rattle.redl_words.proofs.DateLaws.{date_has_no_slash}
@@ -176,24 +176,33 @@ split_back item (next ∷ more) h =
     slice_split_at (λ b. eqb b 44) (item_text item) 44 (join_with_byte 44 (map item_text (next ∷ more))) (no_comma item h.0) refl
     ∙ ap (λ (ps : List (List ℕ)). item_text item ∷ ps) (split_back next more h.1)
 
-numbers_case : (value : List ℕ) (s : Selection) → option_map numbers (numbers_in value) ≡ Some s → Means (codes "numbers:" ++ value) s
+-- what is read behind a label is what the label and the text list
+listed_takes : (label value : List ℕ) (listed : List Listed) → numbers_in value ≡ Some listed → ListsNumbers label (label ++ value) listed
 unfolding numbers_in
-numbers_case value s e =
-    let n = map_some numbers (numbers_after [] (slice_split (λ b. eqb b 44) value)) s e in
-    let t = numbers_take (slice_split (λ b. eqb b 44) value) [] n.0 n.1 in
-    let joined : value ≡ join_with_byte 44 (map item_text n.0) =
+listed_takes label value listed e =
+    let t = numbers_take (slice_split (λ b. eqb b 44) value) [] listed e in
+    let joined : value ≡ join_with_byte 44 (map item_text listed) =
     sym (join_with_byte-slice_split 44 value) ∙ ap (join_with_byte 44) t.written ∙ ap (λ (l : List Listed). join_with_byte 44 (map item_text l)) (sym t.whole) in
-    let some : n.0 ≢ [] = λ empty.
+    let some : listed ≢ [] = λ empty.
     let none : map item_text t.more ≡ [] = ap (map item_text) (sym t.whole ∙ empty) in
     let long = length-slice_split (λ b. eqb b 44) value in
     let short : length (slice_split (λ b. eqb b 44) value) ≡ 0 = ap length (t.written ∙ none) in
     omega (arith, long, short) in
-    let means : ListsNumbers (codes "numbers:" ++ value) n.0 = record {
-      written = ap (λ (l : List ℕ). codes "numbers:" ++ l) joined;
+    record {
+      written = ap (λ (l : List ℕ). label ++ l) joined;
       some = some;
-      items = All-from_recursion IsItem n.0 (subst (AllByRecursion IsItem) (sym t.whole) t.items);
-    } in
-    subst (Means (codes "numbers:" ++ value)) n.2 means
+      items = All-from_recursion IsItem listed (subst (AllByRecursion IsItem) (sym t.whole) t.items);
+    }
+
+numbers_case : (value : List ℕ) (s : Selection) → option_map numbers (numbers_in value) ≡ Some s → Means (codes "numbers:" ++ value) s
+numbers_case value s e =
+    let n = map_some numbers (numbers_in value) s e in
+    subst (Means (codes "numbers:" ++ value)) n.2 (listed_takes (codes "numbers:") value n.0 n.1)
+
+edits_case : (value : List ℕ) (s : Selection) → option_map edits (numbers_in value) ≡ Some s → Means (codes "edit:" ++ value) s
+edits_case value s e =
+    let n = map_some edits (numbers_in value) s e in
+    subst (Means (codes "edit:" ++ value)) n.2 (listed_takes (codes "edit:") value n.0 n.1)
 
 numbers_again : (listed : List Listed) → listed ≢ [] → AllByRecursion IsItem listed → numbers_in (join_with_byte 44 (map item_text listed)) ≡ Some listed
 unfolding numbers_in
@@ -312,7 +321,11 @@ labelled_takes label value s e =
                   | inr three ↦
                       elim (cases_Bool (bytes_eq label (codes "span"))) [
                         | inl hit ↦ at (codes "span") hit (span_case value s (rw (one, two, three, hit) at e))
-                        | inr four ↦ absurd (let none : None ≡ Some s = rw (one, two, three, four) at e in cc)
+                        | inr four ↦
+                            elim (cases_Bool (bytes_eq label (codes "edit"))) [
+                              | inl hit ↦ at (codes "edit") hit (edits_case value s (rw (one, two, three, four, hit) at e))
+                              | inr five ↦ absurd (let none : None ≡ Some s = rw (one, two, three, four, five) at e in cc)
+                            ]
                       ]
                 ]
           ]
@@ -355,6 +368,10 @@ span_label : (v : List ℕ) → selection_in (codes "span:" ++ v) ≡ span_in v
 unfolding labelled
 span_label v = labelled_again (codes "span") v refl
 
+edits_label : (v : List ℕ) → selection_in (codes "edit:" ++ v) ≡ option_map edits (numbers_in v)
+unfolding labelled
+edits_label v = labelled_again (codes "edit") v refl
+
 pub selection_again : (text : List ℕ) (s : Selection) → Means text s → selection_in text ≡ Some s
 selection_again text all h = ap selection_in h ∙ all_again
 selection_again text (numbers listed) h =
@@ -365,6 +382,8 @@ selection_again text (span start end) h =
 selection_again text (kind of_kind) h =
     ap selection_in h.written ∙ kind_label (kind_name of_kind) ∙ kind_again (kind_name of_kind) of_kind ((kind_named-exact (kind_name of_kind) of_kind).1 (h.named, refl))
 selection_again text (group of_group) h = ap selection_in h ∙ kind_label (group_name of_group) ∙ group_again of_group
+selection_again text (edits listed) h =
+    ap selection_in h.written ∙ edits_label (join_with_byte 44 (map item_text listed)) ∙ ap (option_map edits) (numbers_again listed h.some (recursion_from_All IsItem listed h.items))
 
 -- ---- the loop over listed numbers
 

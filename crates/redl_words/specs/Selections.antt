@@ -8,7 +8,7 @@ use Rattle.redl_kinds.specs.declared.group.Group.{Group}
 use Rattle.redl_kinds.specs.declared.group.Group.TheVariants as groups
 use Rattle.redl_kinds.specs.declared.selection.Listed.{Listed}
 use Rattle.redl_kinds.specs.declared.selection.Listed.TheVariants.{One, Range}
-use Rattle.redl_kinds.specs.Selections.{Selection, all, numbers, author, span, kind, group}
+use Rattle.redl_kinds.specs.Selections.{Selection, all, numbers, author, span, kind, group, edits}
 use Rattle.redl_kinds.specs.declared.lock.Lock.{Lock}
 use Rattle.redl_kinds.specs.declared.lock.Lock.TheVariants.{Author, Kind, Span}
 
@@ -22,9 +22,9 @@ abbrev pub IsItem : Listed → Type 0
 IsItem (One number) = number < 2 ^ 32
 IsItem (Range first last) = (first ≤ last) × (last < 2 ^ 32)
 
--- `numbers:` and one or more items with commas between
-pub record ListsNumbers (text : List ℕ) (listed : List Listed) : Type 0 where
-  pub written : text ≡ codes "numbers:" ++ join_with_byte 44 (map item_text listed)
+-- this label and one or more items with commas between
+pub record ListsNumbers (label text : List ℕ) (listed : List Listed) : Type 0 where
+  pub written : text ≡ label ++ join_with_byte 44 (map item_text listed)
   pub some : listed ≢ []
   pub items : All IsItem listed
 
@@ -52,11 +52,12 @@ group_name groups.Props = codes "props"
 -- the text means the selection
 abbrev pub Means : List ℕ → Selection → Type 0
 Means text all = text ≡ codes "all"
-Means text (numbers listed) = ListsNumbers text listed
+Means text (numbers listed) = ListsNumbers (codes "numbers:") text listed
 Means text (author name) = text ≡ codes "author:" ++ name
 Means text (span start end) = GivesSpan text start end
 Means text (kind of_kind) = NamesKind text of_kind
 Means text (group of_group) = text ≡ codes "kind:" ++ group_name of_group
+Means text (edits listed) = ListsNumbers (codes "edit:") text listed
 
 -- two dates with a slash between
 pub record GivesDates (text : List ℕ) (start end : ℤ) : Type 0 where

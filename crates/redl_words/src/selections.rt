@@ -71,6 +71,9 @@ fn read_labelled(alloc: Global, label: &str, value: &str) -> Result<Selection, W
         read_kind(value)
     } else if label == b"span".as_slice() {
         read_span(value)
+    } else if label == b"edit".as_slice() {
+        let listed = read_numbers(alloc, value)?;
+        Ok(Selection::Edits(listed))
     } else {
         Err(WordsError::Usage)
     }

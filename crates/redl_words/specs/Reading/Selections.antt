@@ -1,4 +1,4 @@
--- Reading a selection: a list of numbers and ranges, an author, two dates, a kind or a group of kinds, or all.
+-- Reading a selection: a list of numbers and ranges, or such a list of edits, an author, two dates, a kind or a group of kinds, or all.
 use Rattle.std.specs.Prelude.{◌==◌, ℕ, ℤ, List, [], ◌∷◌, ◌++◌, Option, Some, None, codes, if◌then◌else◌, nat_le, option_map}
 use Rattle.std.specs.List.{slice_split}
 use Rattle.std.specs.Str.{bytes_eq}
@@ -12,7 +12,7 @@ use Rattle.redl_kinds.specs.declared.group.Group.{Group}
 use Rattle.redl_kinds.specs.declared.group.Group.TheVariants.{Content, Marks, Rows, Cells, Props}
 use Rattle.redl_kinds.specs.declared.selection.Listed.{Listed}
 use Rattle.redl_kinds.specs.declared.selection.Listed.TheVariants.{One, Range}
-use Rattle.redl_kinds.specs.Selections.{Selection, all, numbers, author, span, kind, group}
+use Rattle.redl_kinds.specs.Selections.{Selection, all, numbers, author, span, kind, group, edits}
 
 -- the range from the number of one text to that of another
 unfoldable pub range_in : List ℕ → List ℕ → Option Listed
@@ -78,6 +78,7 @@ labelled label value =
     else if bytes_eq label (codes "author") then Some (author value)
     else if bytes_eq label (codes "kind") then kinds_in value
     else if bytes_eq label (codes "span") then span_in value
+    else if bytes_eq label (codes "edit") then option_map edits (numbers_in value)
     else None
 
 -- the selection without a label
