@@ -1,6 +1,6 @@
 -- Command lines: what was read is what the words are, and what the words are is read. So a list of words has one command at most.
 use Rattle.std.proofs.Common.{◌≡◌, ◌≢◌, ℕ, zero, suc, ◌<◌, ◌≤◌, get_or, lit<, Bool, true, false, cond, List, [], ◌∷◌, length, Option, Some, None, Result, Ok, Err, refl, sym, ap, subst, ◌∙◌, inl, inr, ◌⊎◌, arith, IsTrue, All, IsUtf8, IfOk, IfSome}
-use Rattle.std.specs.Prelude.{◌&&◌, codes, decimal, option_to_list, option_map, IsErrOf}
+use Rattle.std.specs.Prelude.{◌&&◌, not, codes, decimal, option_to_list, option_map, IsErrOf}
 use Rattle.std.specs.List.{flat_map, list_all, AllByRecursion}
 use Rattle.std.specs.Str.{bytes_eq}
 use Rattle.std.proofs.lemmas.Option.{same_Some, cond_some}
@@ -26,7 +26,7 @@ use Rattle.redl_words.specs.declared.command.Command as code
 use Rattle.redl_words.specs.declared.command.View.{View}
 use Rattle.redl_words.specs.declared.command.View.TheVariants.{Original, Final, Marked, Bare, Left, LeftJson}
 use Rattle.redl_words.specs.Commands.{Command, settle, view_text, list, report, page, write, decide, join, check, sample, say_word, view_name, view_word, view_option, first_view, IsSettle, IsText, AsksFor, IsPage, IsWrite, IsDecide, IsJoin, IsCheck, IsSample, IsCommand, HasNoCommand, HasUtf8, LockHasUtf8, resume, IsResume}
-use Rattle.redl_words.specs.Items.{Item, format, lock, journal, named_journal, choice, rank, by_kind, item_words, Admits, of_list, of_report, of_page, of_write, of_decide, Form as Kind, is_name, formats_of, locks_of, journals_of, ranks_of, bys_of, if_so, only, onlys_of, title, titles_of}
+use Rattle.redl_words.specs.Items.{Item, format, lock, journal, named_journal, choice, rank, by_kind, item_words, Admits, of_list, of_report, of_page, of_write, of_decide, Form as Kind, is_name, formats_of, locks_of, journals_of, ranks_of, bys_of, if_so, only, onlys_of, title, titles_of, no_pictures, no_pictures_of}
 use Rattle.redl_words.specs.Shown.{Only}
 use Rattle.redl_words.specs.Selections.{MeansLock}
 use Rattle.redl_words.specs.Views.{command_of}
@@ -280,6 +280,7 @@ unsplit k none (rank number ∷ items) h = unsplit k none items h.1
 unsplit k none (by_kind ∷ items) h = absurd (none h.0)
 unsplit k none (only text wanted ∷ items) h = unsplit k none items h.1
 unsplit k none (title text ∷ items) h = unsplit k none items h.1
+unsplit k none (no_pictures ∷ items) h = unsplit k none items h.1
 
 -- so it is said at most once
 one_split : (b : Bool) (bys : List Bool) → if_so b ≡ bys → length bys ≤ 1
@@ -312,6 +313,7 @@ unshown k none (rank number ∷ items) h = unshown k none items h.1
 unshown k none (by_kind ∷ items) h = unshown k none items h.1
 unshown k none (only text wanted ∷ items) h = absurd (none text wanted h.0)
 unshown k none (title text ∷ items) h = unshown k none items h.1
+unshown k none (no_pictures ∷ items) h = unshown k none items h.1
 
 list_takes : (rest : List (List ℕ)) (c : Command) → list_in rest ≡ Some c → IsCommand (codes "list" ∷ rest) c
 list_takes rest c e =
@@ -344,6 +346,7 @@ unranked k none (by_kind ∷ items) h = unranked k none items h.1
 unranked k none (rank number ∷ items) h = absurd (none number h.0)
 unranked k none (only text wanted ∷ items) h = unranked k none items h.1
 unranked k none (title text ∷ items) h = unranked k none items h.1
+unranked k none (no_pictures ∷ items) h = unranked k none items h.1
 
 -- a command that admits no title has none
 untitled : (k : Kind) → ((text : List ℕ) → Admits k (title text) → ⊥) → (items : List Item) → AllByRecursion (Admits k) items → length (titles_of items) ≤ 1
@@ -357,15 +360,30 @@ untitled k none (rank number ∷ items) h = untitled k none items h.1
 untitled k none (by_kind ∷ items) h = untitled k none items h.1
 untitled k none (only text wanted ∷ items) h = untitled k none items h.1
 untitled k none (title text ∷ items) h = absurd (none text h.0)
+untitled k none (no_pictures ∷ items) h = untitled k none items h.1
 
-asked_again : (form : Form) → ((number : ℕ) → Admits (form_of form) (rank number) → ⊥) → ((text : List ℕ) → Admits (form_of form) (title text) → ⊥) → (word p name : List ℕ) (by : Bool) (locks : List Lock) (journals : List (List ℕ)) (onlys : List Only) (words : List (List ℕ))
+-- a command that can't leave pictures out never does
+pictured : (k : Kind) → (Admits k no_pictures → ⊥) → (items : List Item) → AllByRecursion (Admits k) items → length (no_pictures_of items) ≤ 1
+pictured k none [] h = omega arith
+pictured k none (format name ∷ items) h = pictured k none items h.1
+pictured k none (lock text of_lock ∷ items) h = pictured k none items h.1
+pictured k none (journal name ∷ items) h = pictured k none items h.1
+pictured k none (named_journal name ∷ items) h = pictured k none items h.1
+pictured k none (choice word text selection ∷ items) h = pictured k none items h.1
+pictured k none (rank number ∷ items) h = pictured k none items h.1
+pictured k none (by_kind ∷ items) h = pictured k none items h.1
+pictured k none (only text wanted ∷ items) h = pictured k none items h.1
+pictured k none (title text ∷ items) h = pictured k none items h.1
+pictured k none (no_pictures ∷ items) h = absurd (none h.0)
+
+asked_again : (form : Form) → ((number : ℕ) → Admits (form_of form) (rank number) → ⊥) → ((text : List ℕ) → Admits (form_of form) (title text) → ⊥) → (Admits (form_of form) no_pictures → ⊥) → (word p name : List ℕ) (by : Bool) (locks : List Lock) (journals : List (List ℕ)) (onlys : List Only) (words : List (List ℕ))
     (h : AsksFor (form_of form) word words p name by locks journals onlys)
     → asked_in form (p ∷ h.rest) ≡ Some (record { package_name = p; format = name; by_kind = by; locks = locks; journals = journals; onlys = onlys })
 unfolding asked_in
-asked_again form none plain word p name by locks journals onlys words h =
+asked_again form none plain whole word p name by locks journals onlys words h =
     let items = h.items in
     let each = recursion_from_All (Admits (form_of form)) items h.are_items.admitted in
-    let r = read_again form items h.rest h.are_items.written each (once (formats_of items) name (codes "text") h.format) (unranked (form_of form) none items each) (one_split by (bys_of items) h.kinds) (untitled (form_of form) plain items each) in
+    let r = read_again form items h.rest h.are_items.written each (once (formats_of items) name (codes "text") h.format) (unranked (form_of form) none items each) (one_split by (bys_of items) h.kinds) (untitled (form_of form) plain items each) (pictured (form_of form) whole items each) in
     let f : format_or_text r.after.format ≡ name = format_again r.after.format (formats_of items) name r.format h.format in
     let b : r.after.by_kind ≡ by = same_split r.after.by_kind by (r.by_kind ∙ sym h.kinds) in
     let ls : r.after.locks ≡ locks = r.locks ∙ sym h.locks_are in
@@ -412,13 +430,14 @@ unformatted k none (rank number ∷ items) h = unformatted k none items h.1
 unformatted k none (by_kind ∷ items) h = unformatted k none items h.1
 unformatted k none (only text wanted ∷ items) h = unformatted k none items h.1
 unformatted k none (title text ∷ items) h = unformatted k none items h.1
+unformatted k none (no_pictures ∷ items) h = unformatted k none items h.1
 
 write_again : (p : List ℕ) (locks : List Lock) (journals rest : List (List ℕ)) (items : List Item) → is_name p ≡ true → rest ≡ flat_map item_words items → All (Admits of_write) items
     → locks ≡ locks_of items → journals ≡ journals_of items → write_in (p ∷ rest) ≡ Some (write p locks journals)
 unfolding write_in
 write_again p locks journals rest items h written admitted l j =
     let each = recursion_from_All (Admits of_write) items admitted in
-    let r = read_again forms.Write items rest written each (unformatted of_write (λ name h. h) items each) (unranked of_write (λ number h. h) items each) (not_split of_write (λ h. h) items each) (untitled of_write (λ text h. h) items each) in
+    let r = read_again forms.Write items rest written each (unformatted of_write (λ name h. h) items each) (unranked of_write (λ number h. h) items each) (not_split of_write (λ h. h) items each) (untitled of_write (λ text h. h) items each) (pictured of_write (λ h. h) items each) in
     let ls : r.after.locks ≡ locks = r.locks ∙ sym l in
     let js : r.after.journals ≡ journals = r.journals ∙ sym j in
     rw (h, r.reads) (same_write r.after.locks locks r.after.journals journals ls js) where
@@ -439,14 +458,18 @@ same_given None (Some other) e = absurd cc
 same_given (Some one) None e = absurd cc
 same_given (Some one) (Some other) e = cc
 
+not_not : (b : Bool) → not (not b) ≡ b
+not_not true = refl
+not_not false = refl
+
 page_takes : (rest : List (List ℕ)) (c : Command) → page_in rest ≡ Some c → IsCommand (codes "page" ∷ rest) c
 unfolding page_in
 page_takes [] c e = absurd cc
 page_takes (p ∷ rest) c e =
-    let n = needs (is_name p) (option_map (λ items. page p items.title items.rank items.locks items.journals) (gathered forms.Page nothing rest)) c e in
-    let g = map_some (λ (items : Gathered). page p items.title items.rank items.locks items.journals) (gathered forms.Page nothing rest) c n.1 in
+    let n = needs (is_name p) (option_map (λ items. page p items.title items.rank (not items.no_pictures) items.locks items.journals) (gathered forms.Page nothing rest)) c e in
+    let g = map_some (λ (items : Gathered). page p items.title items.rank (not items.no_pictures) items.locks items.journals) (gathered forms.Page nothing rest) c n.1 in
     let r = items_take forms.Page rest nothing g.0 g.1 in
-    let means : IsPage (codes "page" ∷ p ∷ rest) p g.0.title g.0.rank g.0.locks g.0.journals = record {
+    let means : IsPage (codes "page" ∷ p ∷ rest) p g.0.title g.0.rank (not g.0.no_pictures) g.0.locks g.0.journals = record {
       items = r.items;
       rest = rest;
       written = refl;
@@ -454,27 +477,29 @@ page_takes (p ∷ rest) c e =
       are_items = record { written = r.written; admitted = All-from_recursion (Admits of_page) r.items r.admitted };
       title_is = r.says.title;
       rank_is = r.says.rank;
+      pictures_are = ap if_so (not_not g.0.no_pictures) ∙ r.says.no_pictures;
       locks_are = r.says.locks;
       journals_are = r.says.journals;
     } in
     subst (IsCommand (codes "page" ∷ p ∷ rest)) g.2 means
 
-page_again : (words : List (List ℕ)) (p : List ℕ) (name : Option (List ℕ)) (number : Option ℕ) (locks : List Lock) (journals : List (List ℕ)) (h : IsPage words p name number locks journals)
-    → page_in (p ∷ h.rest) ≡ Some (page p name number locks journals)
+page_again : (words : List (List ℕ)) (p : List ℕ) (name : Option (List ℕ)) (number : Option ℕ) (pictures : Bool) (locks : List Lock) (journals : List (List ℕ)) (h : IsPage words p name number pictures locks journals)
+    → page_in (p ∷ h.rest) ≡ Some (page p name number pictures locks journals)
 unfolding page_in
-page_again words p name number locks journals h =
+page_again words p name number pictures locks journals h =
     let items = h.items in
     let each = recursion_from_All (Admits of_page) items h.are_items.admitted in
     let r = read_again forms.Page items h.rest h.are_items.written each (unformatted of_page (λ name h. h) items each) (at_most_given number (ranks_of items) h.rank_is) (not_split of_page (λ h. h) items each)
-    (at_most_given name (titles_of items) h.title_is) in
+    (at_most_given name (titles_of items) h.title_is) (one_split (not pictures) (no_pictures_of items) h.pictures_are) in
     let ts : r.after.title ≡ name = same_given r.after.title name (r.title ∙ sym h.title_is) in
     let ns : r.after.rank ≡ number = same_given r.after.rank number (r.rank ∙ sym h.rank_is) in
+    let ps : not r.after.no_pictures ≡ pictures = ap not (same_split r.after.no_pictures (not pictures) (r.no_pictures ∙ sym h.pictures_are)) ∙ not_not pictures in
     let ls : r.after.locks ≡ locks = r.locks ∙ sym h.locks_are in
     let js : r.after.journals ≡ journals = r.journals ∙ sym h.journals_are in
-    rw (h.package_name, r.reads) (same_page r.after.title name r.after.rank number r.after.locks locks r.after.journals journals ts ns ls js) where
-      same_page : (ts name : Option (List ℕ)) (ns number : Option ℕ) (ls locks : List Lock) (js journals : List (List ℕ)) → ts ≡ name → ns ≡ number → ls ≡ locks → js ≡ journals
-          → Some (page p ts ns ls js) ≡ Some (page p name number locks journals)
-      same_page ts name ns number ls locks js journals a b d e = cc
+    rw (h.package_name, r.reads) (same_page r.after.title name r.after.rank number (not r.after.no_pictures) pictures r.after.locks locks r.after.journals journals ts ns ps ls js) where
+      same_page : (ts name : Option (List ℕ)) (ns number : Option ℕ) (ps pictures : Bool) (ls locks : List Lock) (js journals : List (List ℕ)) → ts ≡ name → ns ≡ number → ps ≡ pictures → ls ≡ locks → js ≡ journals
+          → Some (page p ts ns ps ls js) ≡ Some (page p name number pictures locks journals)
+      same_page ts name ns number ps pictures ls locks js journals a b c d e = cc
 
 -- ---- decide
 
@@ -528,7 +553,7 @@ decide_again : (words : List (List ℕ)) (p reviewer : List ℕ) (journals : Lis
 unfolding decide_in
 decide_again words p reviewer journals locks choices number h =
     let each = recursion_from_All (Admits of_decide) h.items h.are_items.admitted in
-    let r = read_again forms.Decide h.items h.rest h.are_items.written each (unformatted of_decide (λ name h. h) h.items each) (once (ranks_of h.items) number 0 h.rank) (not_split of_decide (λ h. h) h.items each) (untitled of_decide (λ text h. h) h.items each) in
+    let r = read_again forms.Decide h.items h.rest h.are_items.written each (unformatted of_decide (λ name h. h) h.items each) (once (ranks_of h.items) number 0 h.rank) (not_split of_decide (λ h. h) h.items each) (untitled of_decide (λ text h. h) h.items each) (pictured of_decide (λ h. h) h.items each) in
     let js : r.after.journals ≡ journals = r.journals ∙ sym h.journals_are in
     let ls : r.after.locks ≡ locks = r.locks ∙ sym h.locks_are in
     let cs : r.after.choices ≡ choices = r.choices ∙ sym h.choices_are in
@@ -724,11 +749,11 @@ command_again words (view_text p LeftJson) h = by h.written where
   by (inl w) = absurd (let same = w.1 in cc)
   by (inr w) = ap command_in w ∙ left_line (p ∷ codes "--format" ∷ view_name LeftJson ∷ []) ∙ left_named p LeftJson form_again_leftjson h.name
 command_again words (list p name locks journals onlys) h =
-    ap command_in h.written ∙ list_line (p ∷ h.rest) ∙ ap (option_map as_list) (asked_again forms.List (λ number h. h) (λ text h. h) (codes "list") p name false locks journals onlys words h)
+    ap command_in h.written ∙ list_line (p ∷ h.rest) ∙ ap (option_map as_list) (asked_again forms.List (λ number h. h) (λ text h. h) (λ h. h) (codes "list") p name false locks journals onlys words h)
 command_again words (report p name by locks journals) h =
-    ap command_in h.written ∙ report_line (p ∷ h.rest) ∙ ap (option_map as_report) (asked_again forms.Report (λ number h. h) (λ text h. h) (codes "report") p name by locks journals [] words h)
-command_again words (page p name number locks journals) h =
-    ap command_in h.written ∙ page_line (p ∷ h.rest) ∙ page_again words p name number locks journals h
+    ap command_in h.written ∙ report_line (p ∷ h.rest) ∙ ap (option_map as_report) (asked_again forms.Report (λ number h. h) (λ text h. h) (λ h. h) (codes "report") p name by locks journals [] words h)
+command_again words (page p name number pictures locks journals) h =
+    ap command_in h.written ∙ page_line (p ∷ h.rest) ∙ page_again words p name number pictures locks journals h
 command_again words (write p locks journals) h =
     ap command_in h.written ∙ write_line (p ∷ h.rest) ∙ write_again p locks journals h.rest h.items h.package_name h.are_items.written h.are_items.admitted h.locks_are h.journals_are
 command_again words (decide p reviewer journals locks choices number) h =
@@ -776,6 +801,7 @@ items_utf8 k (rank number ∷ items) a h = let r = items_utf8 k items a.1 h.1.1 
 items_utf8 k (by_kind ∷ items) a h = let r = items_utf8 k items a.1 h.1.1 in record { formats = r.formats; locks = r.locks; journals = r.journals; titles = r.titles }
 items_utf8 k (only text wanted ∷ items) a h = let r = items_utf8 k items a.1 h.1.1 in record { formats = r.formats; locks = r.locks; journals = r.journals; titles = r.titles }
 items_utf8 k (title text ∷ items) a h = let r = items_utf8 k items a.1 h.1.1 in record { formats = r.formats; locks = r.locks; journals = r.journals; titles = (h.1.0, r.titles) }
+items_utf8 k (no_pictures ∷ items) a h = let r = items_utf8 k items a.1 h.1 in record { formats = r.formats; locks = r.locks; journals = r.journals; titles = r.titles }
 
 -- ranks are at most 9
 low_ranks : (k : Kind) → ((number : ℕ) → Admits k (rank number) → number ≤ 9) → (items : List Item) → AllByRecursion (Admits k) items → AllByRecursion (λ number. number ≤ 9) (ranks_of items)
@@ -789,6 +815,7 @@ low_ranks k low (rank number ∷ items) a = (low number a.0, low_ranks k low ite
 low_ranks k low (by_kind ∷ items) a = low_ranks k low items a.1
 low_ranks k low (only text wanted ∷ items) a = low_ranks k low items a.1
 low_ranks k low (title text ∷ items) a = low_ranks k low items a.1
+low_ranks k low (no_pictures ∷ items) a = low_ranks k low items a.1
 
 low_rank : (ranks : List ℕ) (number : ℕ) → AllByRecursion (λ n. n ≤ 9) ranks → ((ranks ≡ []) × (number ≡ 0)) ⊎ (ranks ≡ number ∷ []) → number ≤ 9
 low_rank ranks number h (inl e) = let none = e.1 in omega arith
@@ -834,7 +861,7 @@ command_utf8 words (view_text p view) h u = by h.written where
   by (inr w) = let v : AllByRecursion IsUtf8 (view_word view ∷ p ∷ view_option view ∷ view_name view ∷ []) = subst (AllByRecursion IsUtf8) w u in v.1.0
 command_utf8 words (list p name locks journals onlys) h u = asked_utf8 of_list (codes "list") words p name false locks journals onlys h u
 command_utf8 words (report p name by locks journals) h u = asked_utf8 of_report (codes "report") words p name by locks journals [] h u
-command_utf8 words (page p name number locks journals) h u =
+command_utf8 words (page p name number pictures locks journals) h u =
     let v : AllByRecursion IsUtf8 (codes "page" ∷ p ∷ h.rest) = subst (AllByRecursion IsUtf8) h.written u in
     let each = recursion_from_All (Admits of_page) h.items h.are_items.admitted in
     let i = items_utf8 of_page h.items each (subst (AllByRecursion IsUtf8) h.are_items.written v.1.1) in (

@@ -1,5 +1,5 @@
 -- The words of each command (our own rule). They come without the program's name.
-use Rattle.std.specs.Prelude.{◌≡◌, ◌≢◌, ◌^◌, ◌<◌, ◌≤◌, ◌⊎◌, ℕ, Bool, true, false, List, [], ◌∷◌, Option, option_to_list, IfSome, IsTrue, All, IsUtf8, codes, decimal}
+use Rattle.std.specs.Prelude.{◌≡◌, ◌≢◌, ◌^◌, ◌<◌, ◌≤◌, ◌⊎◌, ℕ, Bool, true, false, not, List, [], ◌∷◌, Option, option_to_list, IfSome, IsTrue, All, IsUtf8, codes, decimal}
 use Rattle.std.specs.List.{flat_map}
 use Rattle.redl_journal.specs.declared.entry.Word.{Word}
 use Rattle.redl_journal.specs.Journals.{IsReviewer}
@@ -8,7 +8,7 @@ use Rattle.redl_kinds.specs.declared.lock.Lock.{Lock}
 use Rattle.redl_kinds.specs.declared.lock.Lock.TheVariants.{Author, Kind, Span}
 use Rattle.redl_words.specs.declared.command.View.{View}
 use Rattle.redl_words.specs.declared.command.View.TheVariants.{Original, Final, Marked, Bare, Left, LeftJson}
-use Rattle.redl_words.specs.Items.{Item, AreItems, Form, of_list, of_report, of_page, of_write, of_decide, is_name, formats_of, bys_of, if_so, locks_of, journals_of, choices_of, ranks_of, onlys_of, titles_of}
+use Rattle.redl_words.specs.Items.{Item, AreItems, Form, of_list, of_report, of_page, of_write, of_decide, is_name, formats_of, bys_of, if_so, locks_of, journals_of, choices_of, ranks_of, onlys_of, titles_of, no_pictures_of}
 use Rattle.redl_words.specs.Shown.{Only}
 use Rattle.redl_words.specs.Sittings.{SittingJournal, sitting_words, sitting_name, firsts_of, seconds_of}
 
@@ -20,9 +20,9 @@ pub data Command : Type 0 where
   view_text : List ℕ → View → Command
   -- the revisions of the package in the format of this name, with locks and journals, and of these what each shows
   list : List ℕ → List ℕ → List Lock → List (List ℕ) → List Only → Command
-  -- a page of the package's revisions for a browser, with a title and a rank for what is decided there, if they are given, with locks
-  -- and journals
-  page : List ℕ → Option (List ℕ) → Option ℕ → List Lock → List (List ℕ) → Command
+  -- a page of the package's revisions for a browser, with a title and a rank for what is decided there, if they are given, with its
+  -- pictures or not, with locks and journals
+  page : List ℕ → Option (List ℕ) → Option ℕ → Bool → List Lock → List (List ℕ) → Command
   -- where each reviewer and each author of the package's revisions stands, in the format of this name, by kind or not, with locks
   -- and journals
   report : List ℕ → List ℕ → Bool → List Lock → List (List ℕ) → Command
@@ -94,8 +94,8 @@ pub record AsksFor (form : Form) (word : List ℕ) (words : List (List ℕ)) (p 
   pub journals_are : journals ≡ journals_of items
   pub onlys_are : onlys ≡ onlys_of items
 
--- `page P` and items; a title is given once at most, and so is a rank
-pub record IsPage (words : List (List ℕ)) (p : List ℕ) (name : Option (List ℕ)) (number : Option ℕ) (locks : List Lock) (journals : List (List ℕ)) : Type 0 where
+-- `page P` and items; a title is given once at most, and so is a rank; `--no-pictures` comes once at most, and without it there are pictures
+pub record IsPage (words : List (List ℕ)) (p : List ℕ) (name : Option (List ℕ)) (number : Option ℕ) (pictures : Bool) (locks : List Lock) (journals : List (List ℕ)) : Type 0 where
   pub items : List Item
   pub rest : List (List ℕ)
   pub written : words ≡ codes "page" ∷ p ∷ rest
@@ -103,6 +103,7 @@ pub record IsPage (words : List (List ℕ)) (p : List ℕ) (name : Option (List 
   pub are_items : AreItems of_page rest items
   pub title_is : option_to_list name ≡ titles_of items
   pub rank_is : option_to_list number ≡ ranks_of items
+  pub pictures_are : if_so (not pictures) ≡ no_pictures_of items
   pub locks_are : locks ≡ locks_of items
   pub journals_are : journals ≡ journals_of items
 
@@ -171,7 +172,7 @@ abbrev pub IsCommand : List (List ℕ) → Command → Type 0
 IsCommand words (settle accept p) = IsSettle words accept p
 IsCommand words (view_text p view) = IsText words p view
 IsCommand words (list p name locks journals onlys) = IsList words p name locks journals onlys
-IsCommand words (page p name number locks journals) = IsPage words p name number locks journals
+IsCommand words (page p name number pictures locks journals) = IsPage words p name number pictures locks journals
 IsCommand words (report p name by_kind locks journals) = IsReport words p name by_kind locks journals
 IsCommand words (write p locks journals) = IsWrite words p locks journals
 IsCommand words (decide p reviewer journals locks choices number) = IsDecide words p reviewer journals locks choices number
@@ -195,7 +196,7 @@ abbrev pub HasUtf8 : Command → Type 0
 HasUtf8 (settle accept p) = IsUtf8 p
 HasUtf8 (view_text p view) = IsUtf8 p
 HasUtf8 (list p name locks journals onlys) = IsUtf8 p × IsUtf8 name × All LockHasUtf8 locks × All IsUtf8 journals
-HasUtf8 (page p name number locks journals) = IsUtf8 p × IfSome name IsUtf8 × IfSome number (λ n. n ≤ 9) × All LockHasUtf8 locks × All IsUtf8 journals
+HasUtf8 (page p name number pictures locks journals) = IsUtf8 p × IfSome name IsUtf8 × IfSome number (λ n. n ≤ 9) × All LockHasUtf8 locks × All IsUtf8 journals
 HasUtf8 (report p name by_kind locks journals) = IsUtf8 p × IsUtf8 name × All LockHasUtf8 locks × All IsUtf8 journals
 HasUtf8 (write p locks journals) = IsUtf8 p × All LockHasUtf8 locks × All IsUtf8 journals
 HasUtf8 (decide p reviewer journals locks choices number) = IsUtf8 p × IsReviewer reviewer × All IsUtf8 journals × All LockHasUtf8 locks × (number ≤ 9)

@@ -36,6 +36,8 @@ pub data Item : Type 0 where
   only : List ℕ → Only → Item
   -- `--title` and a title
   title : List ℕ → Item
+  -- `--no-pictures`
+  no_pictures : Item
 
 -- the option that decides by this word
 abbrev pub option_of : Word → List ℕ
@@ -60,6 +62,7 @@ item_words (choice word text selection) = option_of word ∷ text ∷ []
 item_words (rank number) = codes "--rank" ∷ decimal number ∷ []
 item_words (only text wanted) = codes "--only" ∷ text ∷ []
 item_words (title text) = codes "--title" ∷ text ∷ []
+item_words no_pictures = codes "--no-pictures" ∷ []
 
 -- the commands that have items
 pub data Form : Type 0 where
@@ -83,6 +86,7 @@ Admits of_page (lock text of_lock) = MeansLock text of_lock
 Admits of_page (journal name) = IsTrue (is_name name)
 Admits of_page (rank number) = number ≤ 9
 Admits of_page (title text) = Unit {0}
+Admits of_page no_pictures = Unit {0}
 Admits of_write (lock text of_lock) = MeansLock text of_lock
 Admits of_write (journal name) = IsTrue (is_name name)
 Admits of_decide (lock text of_lock) = MeansLock text of_lock
@@ -139,6 +143,12 @@ abbrev pub titles_of : List Item → List (List ℕ)
 titles_of [] = []
 titles_of (title text ∷ items) = text ∷ titles_of items
 titles_of (_ ∷ items) = titles_of items
+
+-- once for each time that they leave the pictures out
+abbrev pub no_pictures_of : List Item → List Bool
+no_pictures_of [] = []
+no_pictures_of (no_pictures ∷ items) = true ∷ no_pictures_of items
+no_pictures_of (_ ∷ items) = no_pictures_of items
 
 -- the words are those of these items, in any order and with repeats, and the command may have each of them
 pub record AreItems (form : Form) (words : List (List ℕ)) (items : List Item) : Type 0 where

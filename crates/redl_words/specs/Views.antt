@@ -29,7 +29,7 @@ abbrev pub command_of : code.Command → Command
 command_of (variants.Settle accept p) = settle accept p
 command_of (variants.Text p view) = view_text p view
 command_of (variants.List c) = list c.package c.format c.locks.items c.journals.items (onlys_view c.only.items)
-command_of (variants.Page c) = page c.package c.title c.rank c.locks.items c.journals.items
+command_of (variants.Page c) = page c.package c.title c.rank c.pictures c.locks.items c.journals.items
 command_of (variants.Report c) = report c.package c.format c.by_kind c.locks.items c.journals.items
 command_of (variants.Write p locks journals) = write p locks.items journals.items
 command_of (variants.Decide c) = decide c.package c.reviewer c.journals.items c.locks.items (choices_view c.choices.items) c.rank

@@ -47,6 +47,8 @@ pub struct PageCommand {
     pub title: Option<Text>,
     /// The rank of what is decided on the page, if it is given.
     pub rank: Option<u8>,
+    /// Whether the page shows the document's pictures.
+    pub pictures: bool,
     /// The locks.
     pub locks: Vec<Lock>,
     /// The names of the journals.

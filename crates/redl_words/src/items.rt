@@ -2,13 +2,13 @@
 
 ghost use Rattle.std.specs.Prelude.{◌≡◌, ◌≤◌, ◌∷◌, All, IfErr, IfOk, IsUtf8, length};
 ghost use Rattle.redl_words.specs.Reading.Answers.{Finds};
-ghost use Rattle.redl_words.specs.Reading.Items.{Goes, gathered, items_view, nothing, with_option, with_plain_journal, with_word};
+ghost use Rattle.redl_words.specs.Reading.Items.{Goes, gathered, items_view, nothing, stands_alone, with_flag, with_lone, with_option, with_plain_journal, with_word};
 
 use crate::error::WordsError;
 use crate::locks::read_lock;
 use crate::names::{add_copy, is_file_name};
 use crate::only::{Only, read_only};
-use crate::options::{Form, ItemOption, Locked, read_option};
+use crate::options::{Form, ItemOption, Locked, is_flag, read_option};
 use crate::ranks::read_rank;
 use crate::selections::read_selection;
 use redl_io::Text;
@@ -36,6 +36,8 @@ pub(crate) struct Items {
     pub only: Vec<Only>,
     /// `--title`: the title of the document.
     pub title: Option<Text>,
+    /// `--no-pictures`: whether the pictures are left out.
+    pub no_pictures: bool,
 }
 
 impl Items {
@@ -52,6 +54,7 @@ impl Items {
             rank: None,
             only: Vec::new(alloc),
             title: None,
+            no_pictures: false,
         }
     }
 
@@ -175,6 +178,30 @@ impl Items {
         Ok(())
     }
 
+    // Leaves the pictures out, which may come once.
+    fn leave_pictures(&mut self) -> Result<(), WordsError>
+        ensures found { Finds (λ _. items_view self.new) result (with_flag self.old.no_pictures (items_view self.old)) }
+        ensures cause { IfErr result (λ error. error ≡ WordsError.Usage) }
+    {
+        if self.no_pictures {
+            return Err(WordsError::Usage);
+        }
+        self.no_pictures = true;
+        Ok(())
+    }
+
+    // Adds what a word says that stands alone.
+    #[tactic(auto, unfolding(crate::specs::Reading::Items::with_lone))]
+    fn add_lone(&mut self, alloc: Global, form: Form, word: &Text) -> Result<(), WordsError>
+        ensures { Finds (λ _. items_view self.new) result (with_lone form word.now (items_view self.old)) }
+    {
+        if is_file_name(word.as_bytes()) {
+            self.add_plain_journal(alloc, form, word)
+        } else {
+            self.leave_pictures()
+        }
+    }
+
     // Adds what an option and its value say.
     fn add_option(
         &mut self,
@@ -228,8 +255,8 @@ impl Items {
         ensures shorter { IfOk result (λ rest. length rest.now ≤ length later.now) }
         ensures utf8 { IfOk result (λ rest. All IsUtf8 rest.now) }
     {
-        if is_file_name(word.as_bytes()) {
-            self.add_plain_journal(alloc, form, word)?;
+        if stands_alone(form, word.as_bytes()) {
+            self.add_lone(alloc, form, word)?;
             return Ok(later);
         }
         match later.split_first() {
@@ -240,6 +267,13 @@ impl Items {
             None => Err(WordsError::Usage),
         }
     }
+}
+
+// Whether the word is an item by itself: the name of a file, or a flag.
+fn stands_alone(form: Form, word: &[u8]) -> bool
+    ensures { result ≡ stands_alone form word.now }
+{
+    is_file_name(word) || is_flag(form, word)
 }
 
 /// What the items in these words say.

@@ -1,7 +1,7 @@
 //! Options: the words that say what the next word is.
 
 ghost use Rattle.std.specs.Prelude.{◌≡◌};
-ghost use Rattle.redl_words.specs.Reading.Items.{option_in, locking_option, option_of_form, reporting_option, deciding_option, paging_option};
+ghost use Rattle.redl_words.specs.Reading.Items.{is_flag, option_in, locking_option, option_of_form, reporting_option, deciding_option, paging_option};
 
 use redl_journal::Word;
 
@@ -138,5 +138,15 @@ fn deciding_option(word: &[u8]) -> Option<ItemOption>
         Some(ItemOption::Rank)
     } else {
         None
+    }
+}
+
+/// Whether the word is a flag of a command of this form: an option that no value follows.
+pub(crate) fn is_flag(form: Form, word: &[u8]) -> bool
+    ensures { result ≡ is_flag form word.now }
+{
+    match form {
+        Form::Page => word == b"--no-pictures".as_slice(),
+        Form::List | Form::Report | Form::Write | Form::Decide => false,
     }
 }

@@ -261,6 +261,7 @@ fn read_page(alloc: Global, words: &[Text]) -> Result<Command, WordsError>
         package,
         title: items.title,
         rank: items.rank,
+        pictures: !items.no_pictures,
         locks: items.locks,
         journals: items.journals,
     }))

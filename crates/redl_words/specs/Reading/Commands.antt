@@ -1,5 +1,5 @@
 -- Reading the words of a command line from the left, as functions on lists.
-use Rattle.std.specs.Prelude.{◌&&◌, ℕ, Bool, true, false, List, [], ◌∷◌, Option, Some, None, codes, if◌then◌else◌, option_map}
+use Rattle.std.specs.Prelude.{◌&&◌, ℕ, Bool, true, false, List, [], ◌∷◌, Option, Some, None, codes, if◌then◌else◌, option_map, not}
 use Rattle.std.specs.List.{list_all}
 use Rattle.std.specs.Str.{bytes_eq}
 use Rattle.redl_journal.specs.declared.entry.Word.{Word}
@@ -112,7 +112,7 @@ report_in rest = option_map as_report (asked_in forms.Report rest)
 
 unfoldable pub page_in : List (List ℕ) → Option Command
 page_in [] = None
-page_in (p ∷ rest) = if is_name p then option_map (λ items. page p items.title items.rank items.locks items.journals) (gathered forms.Page nothing rest) else None
+page_in (p ∷ rest) = if is_name p then option_map (λ items. page p items.title items.rank (not items.no_pictures) items.locks items.journals) (gathered forms.Page nothing rest) else None
 
 unfoldable pub write_in : List (List ℕ) → Option Command
 write_in [] = None

@@ -1,6 +1,6 @@
 -- Reading the words after a verb: files, journals, choices and options.
 use Rattle.std.specs.Borrow.{Bor}
-use Rattle.std.specs.Prelude.{◌≡◌, ℕ, Bool, true, false, List, [], ◌∷◌, ◌++◌, Option, Some, None, Result, Ok, Err, codes, if◌then◌else◌}
+use Rattle.std.specs.Prelude.{◌≡◌, ◌||◌, ℕ, Bool, true, false, List, [], ◌∷◌, ◌++◌, Option, Some, None, Result, Ok, Err, codes, if◌then◌else◌}
 use Rattle.std.specs.Str.{bytes_eq}
 use Rattle.redl_journal.specs.declared.entry.Word.{Word}
 use Rattle.redl_journal.specs.declared.entry.Word.TheVariants.{Accept, Reject, Withdraw}
@@ -34,6 +34,7 @@ pub record Gathered : Type 0 where
   pub rank : Option ℕ
   pub onlys : List Only
   pub title : Option (List ℕ)
+  pub no_pictures : Bool
 
 -- the code's items as plain data
 abbrev pub items_view : code.Items → Gathered
@@ -46,10 +47,11 @@ items_view items = record {
   rank = items.rank;
   onlys = onlys_view items.only.items;
   title = items.title;
+  no_pictures = items.no_pictures;
 }
 
 abbrev pub nothing : Gathered
-nothing = record { format = None; by_kind = false; locks = []; journals = []; choices = []; rank = None; onlys = []; title = None }
+nothing = record { format = None; by_kind = false; locks = []; journals = []; choices = []; rank = None; onlys = []; title = None; no_pictures = false }
 
 -- a command of this form may have journals without an option
 abbrev pub has_plain_journals : Form → Bool
@@ -66,6 +68,27 @@ with_journal name items = record items { journals = items.journals ++ name ∷ [
 -- with a journal that stands without an option
 unfoldable pub with_plain_journal : Form → List ℕ → Gathered → Option Gathered
 with_plain_journal form name items = if has_plain_journals form then Some (with_journal name items) else None
+
+-- the word is a flag of a command of this form: an option that no value follows
+abbrev pub is_flag : Form → List ℕ → Bool
+is_flag forms.List word = false
+is_flag forms.Report word = false
+is_flag forms.Page word = bytes_eq word (codes "--no-pictures")
+is_flag forms.Write word = false
+is_flag forms.Decide word = false
+
+-- without pictures, where that isn't said so far
+abbrev pub with_flag : Bool → Gathered → Option Gathered
+with_flag false items = Some (record items { no_pictures = true })
+with_flag true items = None
+
+-- the word is an item by itself: the name of a file, or a flag
+abbrev pub stands_alone : Form → List ℕ → Bool
+stands_alone form word = is_name word || is_flag form word
+
+-- with an item of one word
+unfoldable pub with_lone : Form → List ℕ → Gathered → Option Gathered
+with_lone form word items = if is_name word then with_plain_journal form word items else with_flag items.no_pictures items
 
 -- the option that a word is, in a command that decides
 unfoldable pub deciding_option : List ℕ → Option ItemOption
@@ -164,10 +187,10 @@ with_word form word value items = do
 -- what the items in these words say, after others
 unfoldable pub gathered : Form → Gathered → List (List ℕ) → Option Gathered
 gathered form items [] = Some items
-gathered form items (word ∷ []) = if is_name word then with_plain_journal form word items else None
+gathered form items (word ∷ []) = if stands_alone form word then with_lone form word items else None
 gathered form items (word ∷ value ∷ later) =
-    if is_name word
-    then (with_plain_journal form word items >>= λ more. gathered form more (value ∷ later))
+    if stands_alone form word
+    then (with_lone form word items >>= λ more. gathered form more (value ∷ later))
     else (with_word form word value items >>= λ more. gathered form more later)
 
 -- after the first item, what is gathered from the words that are left is what is gathered from all of them
