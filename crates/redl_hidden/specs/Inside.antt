@@ -1,0 +1,3 @@
+-- What no public clause of this crate names: how its own code is stated.
+pub mod Chains
+pub mod Known
