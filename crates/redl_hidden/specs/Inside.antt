@@ -1,3 +1,4 @@
 -- What no public clause of this crate names: how its own code is stated.
 pub mod Chains
 pub mod Known
+pub mod Ahead

@@ -1,5 +1,5 @@
 -- Which runs are hidden (ECMA-376 Part 1, 17.3.2.41; the order is our own rule: the exclusive-or of toggles of 17.7.3 isn't used).
-use Rattle.std.specs.Prelude.{Bool, List, codes, Option, unwrap_or}
+use Rattle.std.specs.Prelude.{ℕ, Bool, List, codes, Option, unwrap_or}
 use Rattle.redl_reading.specs.Steps.{or_else}
 use Rattle.redl_tree.specs.Model.Nodes.{Nodes}
 use Rattle.redl_hidden.specs.Styles.{Style, HiddenStyles, chain_hides, kid_value, kids_of_first, place_or, vanish_in}
@@ -18,9 +18,13 @@ paragraph_style_hides hidden properties = chain_hides hidden.styles (place_or is
 abbrev pub paragraph_hides : HiddenStyles → Nodes → Bool
 paragraph_hides hidden kids = unwrap_or (paragraph_style_hides hidden (kids_of_first (codes "pPr") kids)) hidden.document
 
--- whether the style of a run with these properties hides, where its chain says so
+-- whether the style of runs hides that this value of `rStyle` names, or the default one, where its chain says so
+abbrev pub value_hides : HiddenStyles → Option (List ℕ) → Option Bool
+value_hides hidden value = chain_hides hidden.styles (place_or is_of_runs hidden.styles value)
+
+-- the same of a run with these properties
 abbrev pub run_style_hides : HiddenStyles → Nodes → Option Bool
-run_style_hides hidden properties = chain_hides hidden.styles (place_or is_of_runs hidden.styles (kid_value (codes "rStyle") properties))
+run_style_hides hidden properties = value_hides hidden (kid_value (codes "rStyle") properties)
 
 -- whether a run with these properties is hidden: by itself, else by its style, else by its paragraph, if that hides its runs
 abbrev pub properties_hide : HiddenStyles → Bool → Nodes → Bool

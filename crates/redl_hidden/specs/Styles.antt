@@ -1,11 +1,10 @@
 -- What the styles part says of hidden text (ECMA-376 Part 1, 17.3.2.41 for `vanish`, 17.7.4.17, 17.7.4.3 and 17.7.5 for styles). The ids of
 -- styles and the values of properties are compared as they are written, so no memory is taken to look one up.
-use Prim.Native.String.{String}
-use Rattle.std.specs.Prelude.{ℕ, zero, suc, ◌^◌, ◌&&◌, not, Bool, true, false, List, codes, map, bytes_eq, slice_get, Option, Some, None, option_and_then, unwrap_or}
-use Rattle.std.specs.List.{position_from}
+use Rattle.std.specs.Prelude.{ℕ, zero, suc, ◌^◌, ◌&&◌, not, Bool, true, false, List, codes, map, slice_get, Option, Some, None, option_and_then, unwrap_or}
+use Rattle.std.specs.List.{position, position_from}
 use Rattle.std.specs.Option.{option_map}
 use Rattle.redl_reading.specs.Steps.{or_else}
-use Rattle.redl_tree.specs.Model.Nodes.{Nodes, no_nodes}
+use Rattle.redl_tree.specs.Model.Nodes.{Nodes}
 use Rattle.redl_tree.specs.Model.View.{Element}
 use Rattle.redl_stamp.specs.Attribute.{written_value}
 use Rattle.redl_lists.specs.Named.{first_named, all_named}
@@ -120,7 +119,7 @@ chain_hides styles place = nearest styles longest_chain place
 
 -- the place of the first style that is so
 abbrev pub place_with : (Style → Bool) → List Style → Option ℕ
-place_with is_so styles = position_from is_so 0 styles
+place_with is_so styles = position is_so styles
 
 -- that of the style with this id, or without an id of the default style
 abbrev pub place_or : (Style → Bool) → List Style → Option (List ℕ) → Option ℕ

@@ -4,6 +4,7 @@
 //! down to them. How hidden text is shown is left to the crates above. Its tests are whole calls, in the rows of `redl_rows`.
 #![tactic(auto)]
 
+mod ahead;
 mod chain;
 mod places;
 mod style;

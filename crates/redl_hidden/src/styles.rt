@@ -1,17 +1,14 @@
 //! What the styles part says of hidden text, looked up.
 
-ghost use Rattle.std.specs.Prelude.{◌≡◌, IfOk, List, codes, find, map, unwrap_or, false};
-ghost use Rattle.std.specs.List.{position_from};
-ghost use Rattle.redl_idle.specs.Ahead.{Begins};
+ghost use Rattle.std.specs.Prelude.{◌≡◌, IfOk, codes, map, unwrap_or, false};
+ghost use Rattle.std.specs.Option.{option_map};
 ghost use Rattle.redl_lists.specs.Parts.{held_by, kids_of_part, part_elements};
 ghost use Rattle.redl_lists.specs.Tables.{kids_in};
 ghost use Rattle.redl_relations.specs.Relations.{document_part};
 ghost use Rattle.redl_lists.specs.Named.{all_named};
 ghost use Rattle.redl_tree.specs.Model.View.{kids_of};
-ghost use Rattle.redl_hidden.specs.Runs.{is_of_paragraphs, is_of_runs, mark_hides, paragraph_hides, paragraph_style_hides, properties_hide, run_hides, run_style_hides};
-ghost use Rattle.redl_hidden.specs.Styles.{HiddenStyles as Said, chain_hides, default_properties, kid_value, kids_of_first, package_hidden, place_of, place_or, place_with, style_of, styles_data, vanish_in};
-ghost use Rattle.redl_hidden.specs.Inside.Chains.{link_at, said_by};
-ghost use Rattle.redl_hidden.specs.Inside.Known.{place_in};
+ghost use Rattle.redl_hidden.specs.Runs.{is_of_paragraphs, is_of_runs, mark_hides, paragraph_hides, paragraph_style_hides, properties_hide, run_hides, run_style_hides, value_hides};
+ghost use Rattle.redl_hidden.specs.Styles.{default_properties, kids_of_first, package_hidden, place_with, style_of, styles_data, vanish_in};
 
 use crate::chain::{Link, chains_of, said_at};
 use crate::places::Places;
@@ -72,13 +69,13 @@ impl<'a> HiddenStyles<'a> {
         styles: Vec<Style<'a>>,
         document: bool,
     ) -> Result<HiddenStyles<'a>, AllocError>
-        ensures styles { IfOk result (λ hidden. hidden.styles ≡ styles.items) }
+        ensures styles { IfOk result (λ hidden. hidden.styles ≡ styles.entry.items) }
         ensures document { IfOk result (λ hidden. hidden.document ≡ document) }
     {
         let places = Places::of(alloc, &styles)?;
         let links = chains_of(alloc, &styles, &places)?;
-        let of_paragraphs = styles.iter().position(|style| style.is_of_paragraphs());
-        let of_runs = styles.iter().position(|style| style.is_of_runs());
+        let of_paragraphs = place_of_paragraphs(&styles);
+        let of_runs = place_of_runs(&styles);
         Ok(HiddenStyles {
             styles,
             document,
@@ -140,18 +137,32 @@ impl<'a> HiddenStyles<'a> {
     fn run_style_hides(&self, properties: &Option<Part<'_, '_>>) -> Option<bool>
         ensures { result ≡ run_style_hides self.now (kids_of_part properties.now) }
     {
-        match kid_value(properties, b"rStyle") {
-            Some(id) => self.chain_hides(id),
+        self.value_hides(kid_value(properties, b"rStyle"))
+    }
+
+    /// Whether the style of runs hides that this value names, or else the default one, where its chain says so.
+    pub(crate) fn value_hides(&self, value: Option<&[u8]>) -> Option<bool>
+        ensures { result ≡ value_hides self.now (option_map (λ id. id.now) value.entry) }
+    {
+        match value {
+            Some(id) => said_at(&self.links, self.places.place(id)),
             None => said_at(&self.links, self.of_runs),
         }
     }
+}
 
-    /// Whether the style with this id hides, where its chain says so.
-    pub(crate) fn chain_hides(&self, id: &[u8]) -> Option<bool>
-        ensures { result ≡ chain_hides self.now.styles (place_of self.now.styles id.now) }
-    {
-        said_at(&self.links, self.places.place(id))
-    }
+// The place of the style of paragraphs that name none.
+fn place_of_paragraphs(styles: &[Style<'_>]) -> Option<usize>
+    ensures { result ≡ place_with is_of_paragraphs styles.now }
+{
+    styles.iter().position(|style| style.is_of_paragraphs())
+}
+
+// The place of the style of runs that name none.
+fn place_of_runs(styles: &[Style<'_>]) -> Option<usize>
+    ensures { result ≡ place_with is_of_runs styles.now }
+{
+    styles.iter().position(|style| style.is_of_runs())
 }
 
 // The root of the styles part. `Err` means out of memory.
@@ -186,10 +197,7 @@ fn document_hides(root: &Option<Part<'_, '_>>) -> bool
 }
 
 // What each style says. `Err` means out of memory, here and below.
-fn styles_in<'a>(
-    alloc: Global,
-    root: &Option<Part<'_, 'a>>,
-) -> Result<Vec<Style<'a>>, AllocError>
+fn styles_in<'a>(alloc: Global, root: &Option<Part<'_, 'a>>) -> Result<Vec<Style<'a>>, AllocError>
     ensures { IfOk result (λ styles. styles.items ≡ map style_of (all_named (codes "style") (kids_of_part root.now))) }
 {
     match root {

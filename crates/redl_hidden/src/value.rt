@@ -13,7 +13,8 @@ use redl_lists::Part;
 use redl_relations::value_in;
 use redl_stamp::has_attribute;
 
-fn written_value<'a>(tail: &'a [u8], local: &[u8]) -> Option<&'a [u8]>
+/// The value of the first attribute of a tag's tail with this local name.
+pub(crate) fn written_value<'a>(tail: &'a [u8], local: &[u8]) -> Option<&'a [u8]>
     ensures { Gives (λ value. value.now) result (written_value tail.now local.now) }
 {
     if has_attribute(tail, local) {

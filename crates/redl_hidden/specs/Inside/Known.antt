@@ -1,11 +1,10 @@
 -- What is known of styles that were looked up.
-use Rattle.std.specs.Prelude.{◌≡◌, ℕ, List, Option, Some, None, bytes_eq, if◌then◌else◌}
+use Rattle.std.specs.Prelude.{ℕ, List, Option, Some, None, if◌then◌else◌}
 use Rattle.std.specs.BTreeMap.{get_by}
 use Rattle.std.specs.Cmp.Lexicographic.{slice_cmp}
 use Rattle.std.specs.Ordering.{nat_cmp}
 use Rattle.redl_reading.specs.Steps.{or_else}
 use Rattle.redl_lists.specs.Tables.{is_text}
-use Rattle.redl_hidden.specs.Styles.{Style, place_of}
 use Rattle.redl_hidden.specs.declared.places.Places.{Places}
 
 -- the place that a table has for an id
