@@ -9,7 +9,7 @@ use Rattle.redl_grammar.specs.Names.{may_start, may_follow}
 use Rattle.redl_grammar.specs.ScanNames.{name_at, word_at, char_at, name_end, name_step}
 use Rattle.redl_grammar.specs.ScanTags.{attribute_in, attribute_at, equated_at, quoted_at, quote_at, is_value}
 use Rattle.redl_reading.specs.Lists.{field_at}
-use Rattle.redl_hidden.specs.Runs.{paragraph_hides, run_hides, mark_hides}
+use Rattle.redl_hidden.specs.Runs.{paragraph_hides, run_hides, mark_hides, changes_vanish}
 use Rattle.redl_hidden.specs.Styles.{HiddenStyles, hidden_styles, longest_chain, nearest}
 
 -- ---- styles: `H` hides, `G` is based on it, and `V` on that shows again; `R` and `S` are based on each other
@@ -81,3 +81,13 @@ by_default_paragraph = refl
 by_default_run : run_hides (hidden_styles (opened_with "style" " w:type=\"character\" w:default=\"1\"" (opened "rPr" (closed "vanish" "")))) false no_nodes ≡ true
 unfolding longest_chain attributes_of attribute_in attribute_at name_at word_at char_at name_end name_step may_start may_follow is_name_start is_name_character is_space equated_at quoted_at field_at quote_at is_value
 by_default_run = refl
+
+-- ---- changes
+
+made_hidden : changes_vanish (closed "vanish" "") (opened "rPr" (closed "b" "")) ≡ true
+unfolding attributes_of attribute_in attribute_at name_at word_at char_at name_end name_step may_start may_follow is_name_start is_name_character is_space equated_at quoted_at field_at quote_at is_value
+made_hidden = refl
+
+left_hidden : changes_vanish (closed "vanish" "") (opened "rPr" (closed "vanish" " w:val=\"1\"")) ≡ false
+unfolding attributes_of attribute_in attribute_at name_at word_at char_at name_end name_step may_start may_follow is_name_start is_name_character is_space equated_at quoted_at field_at quote_at is_value
+left_hidden = refl

@@ -1,5 +1,5 @@
 -- Which runs are hidden (ECMA-376 Part 1, 17.3.2.41; the order is our own rule: the exclusive-or of toggles of 17.7.3 isn't used).
-use Rattle.std.specs.Prelude.{ℕ, Bool, List, codes, Option, unwrap_or}
+use Rattle.std.specs.Prelude.{ℕ, Bool, true, false, List, codes, Option, Some, None, unwrap_or}
 use Rattle.redl_reading.specs.Steps.{or_else}
 use Rattle.redl_tree.specs.Model.Nodes.{Nodes}
 use Rattle.redl_hidden.specs.Styles.{Style, HiddenStyles, chain_hides, kid_value, kids_of_first, place_or, vanish_in}
@@ -37,3 +37,16 @@ run_hides hidden paragraph kids = properties_hide hidden paragraph (kids_of_firs
 -- and of the mark of a paragraph with these kids
 abbrev pub mark_hides : HiddenStyles → Bool → Nodes → Bool
 mark_hides hidden paragraph kids = properties_hide hidden paragraph (kids_of_first (codes "rPr") (kids_of_first (codes "pPr") kids))
+
+-- ---- a change of a run's properties
+
+-- two answers are not the same
+abbrev pub differ : Option Bool → Option Bool → Bool
+differ None None = false
+differ (Some true) (Some true) = false
+differ (Some false) (Some false) = false
+differ _ _ = true
+
+-- whether a change with these kids, which stands among these properties, makes a run hidden or shown, or says so where nothing was said
+abbrev pub changes_vanish : Nodes → Nodes → Bool
+changes_vanish present kids = differ (vanish_in present) (vanish_in (kids_of_first (codes "rPr") kids))

@@ -6,9 +6,11 @@
 
 mod ahead;
 mod chain;
+mod changes;
 mod places;
 mod style;
 mod styles;
 mod value;
 
+pub use changes::changes_vanish;
 pub use styles::HiddenStyles;
