@@ -1,0 +1,2 @@
+pub mod WalkLaws
+mod Rows

@@ -1,0 +1,5 @@
+pub mod Units
+pub mod Around
+pub mod Walks
+pub mod Members
+pub mod Inside
