@@ -1,0 +1,3 @@
+pub mod DateLaws
+pub mod RemarkLaws
+mod RemarkRows
