@@ -1,0 +1,25 @@
+-- The stories of the parts are those of the package.
+use Rattle.std.proofs.Common.{◌+◌, ◌<◌, ◌++◌, ℕ, List, length, ap, append_assoc, sym, ◌∙◌, arith}
+use Rattle.redl_opc.specs.Shape.{parts_of}
+use Rattle.redl_opc.specs.Stories.{stories_from, stories_of_part}
+use Rattle.redl_opc.proofs.WalkLaws.{stories_from-start, stories_from-part}
+use Rattle.redl_edits.specs.Passed.{stories_passed}
+use Rattle.redl_edits.proofs.PassedLaws.{stories_passed-append}
+use Rattle.redl_edits.proofs.passed.pass_stories.Goals as goal
+
+pub loop-part-init : goal.loop-part-init
+loop-part-init c =
+    ap (λ roots. c.args.out.now ++ stories_passed roots) (stories_from-start c.args.pkg.now c.parts-part-end.ensures.shape)
+
+pub loop-part-preserved : goal.loop-part-preserved
+loop-part-preserved c =
+    let pkg = c.args.pkg.now in
+    let part = c.loop-part.part in
+    let old = c.loop-part.out in
+    let within : part < length (parts_of pkg) = omega (arith, c.parts-part-end.ensures.value, c.loop-part-test.true) in
+    ap (λ (bs : List ℕ). bs ++ stories_passed (stories_from (part + 1) pkg)) c.in_ok-pass_part.ensures
+    ∙ append_assoc old (stories_passed (stories_of_part pkg part)) (stories_passed (stories_from (part + 1) pkg))
+    ∙ ap (λ (bs : List ℕ). old ++ bs)
+    (sym (ap stories_passed (stories_from-part pkg part within)
+    ∙ stories_passed-append (stories_of_part pkg part) (stories_from (part + 1) pkg)))
+    ∙ c.loop-part.invariant

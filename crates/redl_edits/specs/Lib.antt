@@ -1,0 +1,11 @@
+pub mod Alike
+pub mod Passed
+pub mod Formats
+pub mod Tables
+pub mod Facts
+pub mod Beside
+pub mod Enclosed
+pub mod Formatted
+pub mod Tabled
+pub mod Edits
+pub mod Inside
