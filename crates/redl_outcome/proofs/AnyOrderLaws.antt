@@ -220,8 +220,8 @@ carried_same reader files brought (report p format by_kind locks journals) names
     let first = both_ok (has_asked brought asked) (λ there. package_file files p >>= (λ whole. reported reader files brought.reports format by_kind locks names whole)) one is in
     let again = both_ok (has_asked brought asked) (λ there. package_file files p >>= (λ whole. reported reader files brought.reports format by_kind locks others whole)) other too in
     after_opening reader files locks names others p (λ admission. report_named brought.reports format by_kind admission) one other same first.second again.second
-carried_same reader files brought (page p title rank locks journals) names others one other same is too =
-    after_opening reader files locks names others p (λ admission. Ok (page_of brought.skin (heading_with title rank) locks admission)) one other same is too
+carried_same reader files brought (page p title rank pictures locks journals) names others one other same is too =
+    after_opening reader files locks names others p (λ admission. Ok (page_of brought.skin (heading_with title rank pictures) locks admission)) one other same is too
 carried_same reader files brought (write p locks journals) names others one other same is too =
     after_opening reader files locks names others p (λ admission. Ok (resolved locks admission)) one other same is too
 carried_same reader files brought (decide p reviewer journals locks choices rank) names others one other same is too =

@@ -135,7 +135,7 @@ leaves reader files brought (write other locks journals) name writing named is =
     subst (λ n. IsLeft reader files (plan (write other locks journals)) n writing.bytes) (same_some named) (leaves_written reader files brought other locks journals writing is)
 leaves reader files brought (list other format locks journals wanted) name writing named is = absurd (cc named)
 leaves reader files brought (report other format by_kind locks journals) name writing named is = absurd (cc named)
-leaves reader files brought (page other title rank locks journals) name writing named is = absurd (cc named)
+leaves reader files brought (page other title rank pictures locks journals) name writing named is = absurd (cc named)
 leaves reader files brought (decide other reviewer journals locks choices rank) name writing named is = absurd (cc named)
 leaves reader files brought (resume other q firsts journals) name writing named is = absurd (cc named)
 leaves reader files brought (join journals) name writing named is = absurd (cc named)

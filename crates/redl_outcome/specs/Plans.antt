@@ -71,7 +71,7 @@ plan (report p name by_kind locks journals) = record (only (of_package p (λ rea
   locks = locks;
   report = Some name;
 }
-plan (page p title rank locks journals) = record (only (of_package p (λ reader files brought whole. paged reader files brought.skin (heading_with title rank) locks journals whole))) {
+plan (page p title rank pictures locks journals) = record (only (of_package p (λ reader files brought whole. paged reader files brought.skin (heading_with title rank pictures) locks journals whole))) {
   journals = journals;
   locks = locks;
 }

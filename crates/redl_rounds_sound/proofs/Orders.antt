@@ -177,8 +177,8 @@ carried_too reader files brought (report p format by_kind locks journals) names 
       ap (λ (x : Result (Unit {0}) Failure). x >>= (λ there. package_file files p >>= (λ whole. reported reader files brought.reports format by_kind locks more whole))) first.first
           ∙ after_opening reader files locks names more p (λ admission. report_named brought.reports format by_kind admission) one same first.second room,
     )
-carried_too reader files brought (page p title rank locks journals) names more one same is room =
-    (one, after_opening reader files locks names more p (λ admission. Ok (page_of brought.skin (heading_with title rank) locks admission)) one same is room)
+carried_too reader files brought (page p title rank pictures locks journals) names more one same is room =
+    (one, after_opening reader files locks names more p (λ admission. Ok (page_of brought.skin (heading_with title rank pictures) locks admission)) one same is room)
 carried_too reader files brought (write p locks journals) names more one same is room =
     (one, after_opening reader files locks names more p (λ admission. Ok (resolved locks admission)) one same is room)
 carried_too reader files brought (decide p reviewer journals locks choices rank) names more one same is room =
