@@ -65,6 +65,7 @@ fn add_author_hints(name: &[u8], hints: &mut Vec<u8>) -> Result<(), AllocError> 
 
 fn is_selection(name: &[u8]) -> bool {
     name.starts_with(b"author:")
+        || name.starts_with(b"edit:")
         || name.starts_with(b"kind:")
         || name.starts_with(b"numbers:")
         || name.starts_with(b"span:")

@@ -40,7 +40,7 @@ fn fault_of_shown(help: &str, text: &str) -> Option<&'static str> {
         Some((label, value)) => fault_of_labelled(help, label, value),
         None if text == "all" => None,
         None => Some(
-            "--only takes open, accept, reject, disputed or a selection: numbers:1,2, author:NAME, kind:NAME, kind:GROUP or span:FROM/TO",
+            "--only takes open, accept, reject, disputed or a selection: numbers:1,2, edit:3, author:NAME, kind:NAME, kind:GROUP or span:FROM/TO",
         ),
     }
 }
@@ -50,7 +50,7 @@ fn fault_of_selection(help: &str, text: &str) -> Option<&'static str> {
         Some((label, value)) => fault_of_labelled(help, label, value),
         None if text == "all" => None,
         None => Some(
-            "a selection is all, numbers:1,2, author:NAME, kind:NAME, kind:GROUP or span:FROM/TO",
+            "a selection is all, numbers:1,2, edit:3, author:NAME, kind:NAME, kind:GROUP or span:FROM/TO",
         ),
     }
 }
@@ -58,8 +58,8 @@ fn fault_of_selection(help: &str, text: &str) -> Option<&'static str> {
 fn fault_of_labelled(help: &str, label: &str, value: &str) -> Option<&'static str> {
     match label {
         "author" => None,
-        "numbers" if is_listed(help, value) => None,
-        "numbers" => Some(
+        "numbers" | "edit" if is_listed(help, value) => None,
+        "numbers" | "edit" => Some(
             "numbers are written as --help shows, with commas and without spaces, each without a zero in front and at most 4294967295, in a range the smaller one first",
         ),
         "kind" if is_listed_kind(help, value) => None,
@@ -70,7 +70,7 @@ fn fault_of_labelled(help: &str, label: &str, value: &str) -> Option<&'static st
         "span" => Some(
             "a span is two dates with their times, as 2026-11-01T00:00:00Z/2026-11-02T00:00:00Z, the second not included",
         ),
-        _ => Some("a selection begins with numbers:, author:, kind: or span:, or is all"),
+        _ => Some("a selection begins with numbers:, edit:, author:, kind: or span:, or is all"),
     }
 }
 
