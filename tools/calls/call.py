@@ -4,7 +4,7 @@ import sys
 
 from calls.places import find_redline
 from calls.program import Running
-from calls.words import DOCX, ENDINGS, FOREIGN, PLACES, TAKES_FOLDER, WRITES, WRITES_PACKAGE, Refused, ending, is_zip, tell
+from calls.words import DOCX, ENDINGS, FLAGS, FOREIGN, PLACES, TAKES_FOLDER, WRITES, WRITES_PACKAGE, Refused, ending, is_zip, tell
 from opc import files
 from opc.terminal import masked
 from opc.unpack import unpack
@@ -115,7 +115,7 @@ class Call:
         """Puts the journals that were made for the document in the place of a folder."""
         words, before, digest = self.words[:2], "", None
         for word in self.words[2:]:
-            if before.startswith("--") or not os.path.isdir(word):
+            if before.startswith("--") and before not in FLAGS or not os.path.isdir(word):
                 words.append(word)
             else:
                 from calls.journals import digest_of, journals_in

@@ -23,6 +23,8 @@ DOCX = (".docx", ".docm", ".dotx", ".dotm")
 ENDINGS = {DOCUMENT: DOCX + (".xml",), PAGE: (".html", ".htm")}
 FOREIGN = DOCX + (".xml", ".html", ".htm", ".doc", ".dot", ".odt", ".ott", ".rtf", ".pdf", ".zip")
 VALUES = {"-o": "out", "--package": "package"}
+# The options of redline that no value follows.
+FLAGS = ("--no-pictures",)
 SWITCHES = ("-f", "--tidy", "--drop-unused-notes", "--idle-locks")
 
 
@@ -40,7 +42,7 @@ class Refused(Exception):
 
 
 def read_words(words):
-    """The words for redline, and what is for this script. An option that isn't this script's takes the next word with it."""
+    """The words for redline, and what is for this script. An option that isn't this script's takes the next word with it, but for a flag."""
     own, theirs, rest = {"switches": set()}, [], list(words)
     while rest:
         word = rest.pop(0)
@@ -54,7 +56,7 @@ def read_words(words):
             theirs.append(word)
             if word == "--title":
                 own["title"] = True
-            if word.startswith("--") and rest:
+            if word.startswith("--") and word not in FLAGS and rest:
                 theirs.append(rest.pop(0))
     return theirs, own
 

@@ -48,10 +48,10 @@ ITEM is --lock AUTHOR, --lock-kind KIND or --lock-span SPAN: nobody decides
   for decide also --accept CHANGES, --reject CHANGES or --withdraw CHANGES, once
   at least, and --rank N, from 0 to 9: the highest rank that has a word on a
   change decides it;
-  for page also --title TEXT, the name of the document, and --rank N for what is
-  decided there.
-CHANGES is all, numbers:3,7-9, \"author:Ann Gray\", kind:KIND, kind:GROUP or
-  span:SPAN.
+  for page also --title TEXT, the name of the document, --rank N for what is
+  decided there, and --no-pictures, which leaves the pictures out.
+CHANGES is all, numbers:3,7-9, edit:12, \"author:Ann Gray\", kind:KIND, kind:GROUP
+  or span:SPAN.
 SHOWN is open, accept, reject or disputed, or else CHANGES: only these changes
   are listed.
 GROUP is content, marks, rows, cells or props: all changes of text, of paragraph
@@ -100,8 +100,8 @@ ITEM is, in any order:
   --lock-kind KIND      those of this kind,
   --lock-span SPAN      or those of this time
 SHOWN is open, accept, reject or disputed, or else CHANGES.
-CHANGES is all, numbers:3,7-9, \"author:Ann Gray\", kind:KIND, kind:GROUP or
-  span:SPAN.
+CHANGES is all, numbers:3,7-9, edit:12, \"author:Ann Gray\", kind:KIND, kind:GROUP
+  or span:SPAN.
 KIND and GROUP are names of kinds, as ins, del or props: redline --help lists
   them.
 SPAN is two dates, the second not included:
@@ -136,6 +136,7 @@ ITEM is, in any order:
   J                     a journal
   --title TEXT          the name of the document
   --rank N              the rank of what is decided there, from 0 to 9
+  --no-pictures         the page has no pictures
   --lock AUTHOR         nobody decides the changes of AUTHOR,
   --lock-kind KIND      those of this kind,
   --lock-span SPAN      or those of this time
@@ -160,8 +161,8 @@ ITEM is, in any order, with one choice at least:
   --lock AUTHOR         nobody decides the changes of AUTHOR,
   --lock-kind KIND      those of this kind,
   --lock-span SPAN      or those of this time
-CHANGES is all, numbers:3,7-9, \"author:Ann Gray\", kind:KIND, kind:GROUP or
-  span:SPAN.
+CHANGES is all, numbers:3,7-9, edit:12, \"author:Ann Gray\", kind:KIND, kind:GROUP
+  or span:SPAN.
 KIND and GROUP are names of kinds, as ins, del or props: redline --help lists
   them.
 SPAN is two dates, the second not included:
