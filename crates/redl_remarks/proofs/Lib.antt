@@ -1,1 +1,2 @@
+pub mod EditedLaws
 pub mod RemarkLaws

@@ -4,6 +4,7 @@ use lib.Signed.{le_z_yes}
 use lib.Dec.{T}
 use Rattle.std.proofs.lemmas.Bool.{and_parts}
 use Rattle.std.proofs.lemmas.List.{append-nil, length_push, take_more}
+use Rattle.std.proofs.lemmas.List.Concat.{flat_map-append}
 use Rattle.std.proofs.lemmas.List.Elements.{All-map, filter_map-append}
 use Rattle.std.specs.List.{cons_option, filter_map, slice_index_or}
 use Rattle.std.specs.Option.{option_to_list}
@@ -23,7 +24,8 @@ use Rattle.redl_excerpts.specs.Details.{with_remarks}
 use Rattle.redl_excerpts.specs.Remarks.{Remarks}
 use Rattle.redl_excerpts.specs.declared.detail.Detail.{Detail}
 use Rattle.redl_excerpts.specs.declared.remark.Remark.{Remark}
-use Rattle.redl_remarks.specs.Remarked.{is_wanted, remarked_from, remarks_of, remarks_on}
+use Rattle.redl_remarks.specs.Ids.{spaced_id, spaced_ids}
+use Rattle.redl_remarks.specs.Remarked.{is_set, remarked_from, remarks_of, remarks_on}
 use Rattle.redl_remarks.specs.Inside.{IsDated, all_remarked, remarked, remarks_at, remarks_if}
 
 -- ---- dates
@@ -77,6 +79,16 @@ remarks-more at places i within =
     one None = refl
     one (Some remark) = refl
 
+-- ---- ids
+
+-- the id of one comment more
+pub spaced-more : (comments : List Comment) (places : List ℕ) (i : ℕ) → i < length places → spaced_ids comments (take (i + 1) places) ≡ spaced_ids comments (take i places) ++ spaced_id (slice_get comments (get_or places i 0))
+spaced-more comments places i within =
+    let place = get_or places i 0 in
+    ap (spaced_ids comments) (take_more places i 0 within)
+    ∙ flat_map-append (λ p. spaced_id (slice_get comments p)) (take i places) (place ∷ [])
+    ∙ ap (λ (ids : List ℕ). spaced_ids comments (take i places) ++ ids) (append-nil (spaced_id (slice_get comments place)))
+
 -- ---- details one after another
 
 module _ (found : Commented) (wanted : List Bool) (whole : List Detail) where
@@ -112,6 +124,6 @@ module _ (found : Commented) (nodes : Nodes) (wanted : List Bool) (count : ℕ) 
       → all_remarked found wanted place details ≡ remarked_from nodes wanted place details
   all-found [] place comments threads on within = refl
   all-found (detail ∷ more) place comments threads on within =
-      let own = λ (remarks : Remarks). if is_wanted wanted place then with_remarks detail remarks else detail in
+      let own = λ (remarks : Remarks). if is_set wanted place then with_remarks detail remarks else detail in
       ap (λ (remarks : Remarks). own remarks ∷ all_remarked found wanted (place + 1) more) (remarks-found place comments threads on (omega arith))
       ∙ ap (λ (ds : List Detail). own (remarks_on nodes (place + 1)) ∷ ds) (all-found more (place + 1) comments threads on (omega arith))

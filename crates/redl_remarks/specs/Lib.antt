@@ -1,3 +1,4 @@
 pub mod Remarked
+pub mod Ids
 -- What no public clause of this crate names: how its own code is stated.
 pub mod Inside

@@ -1,5 +1,5 @@
 -- Details with the comments on their revisions (our own rule).
-use Rattle.std.specs.Prelude.{ℕ, ◌+◌, Bool, false, List, [], ◌∷◌, filter_map, slice_get, unwrap_or, Option, option_and_then, if◌then◌else◌}
+use Rattle.std.specs.Prelude.{ℕ, ◌+◌, Bool, false, List, [], ◌∷◌, filter_map, length, slice_get, unwrap_or, Option, option_and_then, if◌then◌else◌}
 use Rattle.std.specs.Option.{option_map}
 use Rattle.redl_tree.specs.Model.Nodes.{Nodes}
 use Rattle.redl_clauses.specs.Clauses.{numbered_details}
@@ -8,10 +8,12 @@ use Rattle.redl_commented.specs.Package.{package_remarks}
 use Rattle.redl_comments.specs.Comments.{comments_of}
 use Rattle.redl_comments.specs.Threads.{Threads, is_done, package_threads, parent_at}
 use Rattle.redl_comments.specs.declared.comment.Comment.{Comment}
-use Rattle.redl_excerpts.specs.Details.{text_or_nothing, with_remarks}
+use Rattle.redl_edits.specs.Edits.{package_edits}
+use Rattle.redl_excerpts.specs.Details.{text_or_nothing, with_edit, with_hidden, with_remarks}
 use Rattle.redl_excerpts.specs.Remarks.{Remarks}
 use Rattle.redl_excerpts.specs.declared.detail.Detail.{Detail}
 use Rattle.redl_excerpts.specs.declared.remark.Remark.{Remark}
+use Rattle.redl_hidden_members.specs.Members.{package_hidden_members}
 use Rattle.redl_index.specs.declared.revision.Revision.{Revision}
 use Rattle.redl_journal.specs.declared.entry.Entry.{Entry}
 
@@ -48,17 +50,35 @@ remarks_on nodes v = remarks_of (comments_of nodes) (package_threads nodes) (pac
 
 -- ---- details
 
--- the revision at this place, from 0, is wanted: there is a flag for it, and it is set
-abbrev pub is_wanted : List Bool → ℕ → Bool
-is_wanted wanted place = unwrap_or (slice_get wanted place) false
+-- the flag at this place, from 0, is set: there is one
+abbrev pub is_set : List Bool → ℕ → Bool
+is_set flags place = unwrap_or (slice_get flags place) false
+
+-- the edit at this place, and 0 where there is none
+abbrev pub edit_at : List ℕ → ℕ → ℕ
+edit_at edits place = unwrap_or (slice_get edits place) 0
+
+-- the detail of the revision at this place, with its edit, and where it is hidden or not
+abbrev pub edited : List ℕ → List Bool → ℕ → Detail → Detail
+edited edits hidden place detail = with_hidden (with_edit detail (edit_at edits place)) (is_set hidden place)
+
+-- the same of details of revisions, of which the first stands at this place
+abbrev pub edited_from : List ℕ → List Bool → ℕ → List Detail → List Detail
+edited_from edits hidden place [] = []
+edited_from edits hidden place (detail ∷ more) = edited edits hidden place detail ∷ edited_from edits hidden (place + 1) more
+
+-- the details of the revisions of a package that are wanted, with the clauses and edits of all, and where they are hidden, on which a book
+-- has these entries
+abbrev pub edited_details : Nodes → List Revision → List Bool → List Entry → List Detail
+edited_details nodes revisions wanted book =
+    edited_from (package_edits nodes revisions) (package_hidden_members nodes (length revisions)) 0 (numbered_details nodes revisions wanted book)
 
 -- details of revisions, of which the first stands at this place, with the comments on those that are wanted
 abbrev pub remarked_from : Nodes → List Bool → ℕ → List Detail → List Detail
 remarked_from nodes wanted place [] = []
 remarked_from nodes wanted place (detail ∷ more) =
-    (if is_wanted wanted place then with_remarks detail (remarks_on nodes (place + 1)) else detail) ∷ remarked_from nodes wanted (place + 1) more
+    (if is_set wanted place then with_remarks detail (remarks_on nodes (place + 1)) else detail) ∷ remarked_from nodes wanted (place + 1) more
 
--- the details of the revisions of a package that are wanted, with the clauses of all and the comments on them, on which a book has these
--- entries
+-- the same with the comments on those that are wanted
 unfoldable pub remarked_details : Nodes → List Revision → List Bool → List Entry → List Detail
-remarked_details nodes revisions wanted book = remarked_from nodes wanted 0 (numbered_details nodes revisions wanted book)
+remarked_details nodes revisions wanted book = remarked_from nodes wanted 0 (edited_details nodes revisions wanted book)

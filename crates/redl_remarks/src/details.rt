@@ -1,12 +1,12 @@
-//! Details with the comments on their revisions.
+//! Details with the edits and the comments of their revisions.
 
 ghost use Rattle.std.specs.Prelude.{◌≡◌, All, IfOk};
 ghost use Rattle.redl_excerpts.specs.Details.{IsDetail};
-ghost use Rattle.redl_remarks.specs.Remarked.{is_wanted, remarked_details};
+ghost use Rattle.redl_remarks.specs.Remarked.{remarked_details};
 ghost use Rattle.redl_remarks.specs.Inside.{IsDated, all_remarked, remarked};
 
+use crate::edited::{edited_details, is_set};
 use crate::remarks::remarks_at;
-use redl_clauses::numbered_details;
 use redl_commented::{Commented, package_comments};
 use redl_excerpts::Detail;
 use redl_index::Index;
@@ -14,10 +14,10 @@ use redl_join::Book;
 use redl_opc::Package;
 use std::alloc::{AllocError, Global};
 
-/// The details of the revisions of a numbered package that are wanted, with the clauses of all and the comments on them, in the order of
-/// their numbers, on which the book has these entries. `Err` means out of memory, here and below.
+/// The details of the revisions of a numbered package that are wanted, in the order of their numbers, with the clauses and edits of all,
+/// whether they are hidden, and the comments on them, on which the book has these entries. `Err` means out of memory, here and below.
 ///
-/// `wanted` says of each revision whether it is wanted. The index is that of the package. It goes over each story three times, and once
+/// `wanted` says of each revision whether it is wanted. The index is that of the package. It goes over each story five times, and once
 /// more where there are comments.
 pub fn remarked_details(
     alloc: Global,
@@ -29,7 +29,7 @@ pub fn remarked_details(
     ensures value { IfOk result (λ details. details.items ≡ remarked_details pkg.now index.now wanted.now book.now) }
     ensures utf8 { IfOk result (λ details. All IsDetail details.items) }
 {
-    let details = numbered_details(alloc, pkg, index, wanted, book)?;
+    let details = edited_details(alloc, pkg, index, wanted, book)?;
     let found = package_comments(alloc, pkg, details.len())?;
     let remarked = all_remarked(alloc, details, wanted, &found)?;
     Ok(remarked)
@@ -67,18 +67,9 @@ fn remarked(
     ensures value { IfOk result (λ own. own ≡ remarked found.now wanted.now place detail) }
     ensures utf8 { IfOk result IsDetail }
 {
-    if !is_wanted(wanted, place) {
+    if !is_set(wanted, place) {
         return Ok(detail);
     }
     let remarks = remarks_at(alloc, found, place)?;
     Ok(detail.with_remarks(remarks))
-}
-
-fn is_wanted(wanted: &[bool], place: usize) -> bool
-    ensures { result ≡ is_wanted wanted.now place }
-{
-    match wanted.get(place) {
-        Some(wanted) => *wanted,
-        None => false,
-    }
 }
