@@ -1,0 +1,12 @@
+use Rattle.redl_io.proofs.Puts.{puts_then, puts_fails}
+use Rattle.std.proofs.Common.{refl}
+use Rattle.redl_page_numbers.proofs.put_levels.put_minus.Goals as goal
+
+pub returns-in_err-put_piece : goal.returns-in_err-put_piece
+returns-in_err-put_piece g c =
+    puts_fails _ refl c.from_residual.ensures.1 c.in_err-put_piece.ensures
+
+pub returns : goal.returns
+returns g c =
+    puts_then refl c.in_ok-put_piece.ensures
+    c.put_whole.ensures

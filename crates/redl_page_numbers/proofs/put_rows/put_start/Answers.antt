@@ -1,0 +1,18 @@
+use Rattle.std.proofs.Common.{refl}
+use Rattle.redl_io.proofs.Puts.{puts_then, puts_fails}
+use Rattle.redl_page_numbers.proofs.put_rows.put_start.Goals as goal
+
+pub returns-in_err-put_piece : goal.returns-in_err-put_piece
+returns-in_err-put_piece g c =
+    puts_fails _ refl c.from_residual.ensures.1 c.in_err-put_piece.ensures
+
+pub returns-in_err-put_escaped : goal.returns-in_err-put_escaped
+returns-in_err-put_escaped g c =
+    puts_then refl c.in_ok-put_piece.ensures
+    (puts_fails _ refl c.from_residual-in_err-put_escaped.ensures.1 c.in_err-put_escaped.ensures)
+
+pub returns : goal.returns
+returns g c =
+    puts_then refl c.in_ok-put_piece.ensures
+    (puts_then refl c.in_ok-put_escaped.ensures
+    c.put_piece-2.ensures)
