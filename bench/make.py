@@ -15,6 +15,7 @@
     python3 make.py grown BYTES FILE             a document of some 80 MB of which `settle accept` makes so many bytes, 128 MiB or more
     python3 make.py text NAME FILE               a text that is deep, wide or long, and no package
     python3 make.py comments NAME FILE           a document with 100,000 comments
+    python3 make.py numbered NAME FILE           a document with 10,000 numbered paragraphs, a change in each, and numbering gone wrong
 """
 import hashlib
 import sys
@@ -268,6 +269,69 @@ def commented(name):
     return FRONT + "<w:p>%s</w:p>" % inside + BACK.replace("</pkg:package>", more + "</pkg:package>")
 
 
+# Numbered paragraphs: what the numbering part and the styles part say, and the properties of each paragraph.
+NUMBERED = 10000
+PARTS_BESIDE = (
+    '<pkg:part pkg:name="/word/_rels/document.xml.rels" pkg:contentType="application/vnd.openxmlformats-package.relationships+xml"><pkg:xmlData>'
+    '<Relationships xmlns="http://schemas.openxmlformats.org/package/2006/relationships">'
+    '<Relationship Id="a" Type="x/numbering" Target="numbering.xml"/><Relationship Id="b" Type="x/styles" Target="styles.xml"/>'
+    "</Relationships></pkg:xmlData></pkg:part>"
+)
+LEVEL = '<w:lvl w:ilvl="%d"><w:start w:val="%d"/><w:lvlText w:val="%%1."/></w:lvl>'
+LIST = '<w:abstractNum w:abstractNumId="%d">%s</w:abstractNum>'
+NUM = '<w:num w:numId="%d"><w:abstractNumId w:val="%d"/></w:num>'
+NUM_PROPERTIES = '<w:pPr><w:numPr><w:ilvl w:val="%d"/><w:numId w:val="%d"/></w:numPr></w:pPr>'
+STYLE = '<w:style w:type="paragraph" w:styleId="S%d"><w:basedOn w:val="S%d"/>%s</w:style>'
+ONE_LIST = LIST % (0, LEVEL % (0, 1)) + NUM % (1, 0)
+
+
+def each(of):
+    return "".join(of(i) for i in range(NUMBERED))
+
+
+def styled(num_at, base):
+    """Styles of which each is based on the one that `base` gives; one of them has the num. Each paragraph has the last one."""
+    styles = each(lambda i: STYLE % (i, base(i), NUM_PROPERTIES % (0, 1) if i == num_at else ""))
+    return ONE_LIST, styles, lambda i: '<w:pPr><w:pStyle w:val="S%d"/></w:pPr>' % (NUMBERED - 1)
+
+
+WRONGLY_NUMBERED = {
+    # a chain of 10,000 styles, of which the first has the num, or one near the last
+    "chain": lambda: styled(0, lambda i: i - 1),
+    "near": lambda: styled(NUMBERED - 99, lambda i: i - 1),
+    # a ring of as many, of which none has one
+    "ring": lambda: styled(None, lambda i: (i + 1) % NUMBERED),
+    # 10,000 lists and nums; each list leads to the next one by its style, and the last to the first
+    "links": lambda: (
+        each(lambda i: LIST % (i, '<w:styleLink w:val="L%d"/><w:numStyleLink w:val="L%d"/>' % (i, (i + 1) % NUMBERED) + LEVEL % (0, i + 1)))
+        + each(lambda i: NUM % (i + 1, i)),
+        "",
+        lambda i: NUM_PROPERTIES % (0, i + 1),
+    ),
+    # levels from 9 to 10,008 in a list, and a paragraph at each
+    "levels": lambda: (LIST % (0, LEVEL % (0, 1) + each(lambda i: LEVEL % (i + 9, 1))) + NUM % (1, 0), "", lambda i: NUM_PROPERTIES % (i + 9, 1)),
+    # numbers from 999,999,999 on, and a start past 2^31, which is none
+    "far": lambda: (LIST % (0, LEVEL % (0, 999999999)) + NUM % (1, 0), "", lambda i: NUM_PROPERTIES % (0, 1)),
+    "past": lambda: (LIST % (0, LEVEL % (0, 2 ** 31)) + NUM % (1, 0), "", lambda i: NUM_PROPERTIES % (0, 1)),
+    # each paragraph has a num of its own, which begins the one list anew
+    "anew": lambda: (
+        LIST % (0, LEVEL % (0, 1))
+        + each(lambda i: NUM.replace("</w:num>", '<w:lvlOverride w:ilvl="0"><w:startOverride w:val="%d"/></w:lvlOverride></w:num>' % (i + 1)) % (i + 1, 0)),
+        "",
+        lambda i: NUM_PROPERTIES % (0, i + 1),
+    ),
+}
+
+
+def numbered(name):
+    numbering, styles, properties = WRONGLY_NUMBERED[name]()
+    space = FRONT[FRONT.index(" xmlns:w=") : FRONT.index("><w:body>")]
+    more = PARTS_BESIDE + PART % ("numbering", "<w:numbering%s>%s</w:numbering>" % (space, numbering))
+    more += PART % ("styles", "<w:styles%s>%s</w:styles>" % (space, styles))
+    body = each(lambda i: "<w:p>%s%s</w:p>" % (properties(i), ADDED))
+    return FRONT + body + BACK.replace("</pkg:package>", more + "</pkg:package>")
+
+
 DELETED_MARK = '<w:p><w:pPr><w:rPr><w:del w:id="1"/></w:rPr></w:pPr></w:p>'
 BODY = 5  # so deep in the elements of its package the body of a document stands
 DEEPEST = 512
@@ -372,6 +436,7 @@ def main(form, value, *rest):
         "grown": lambda: grown(int(value)),
         "text": lambda: TEXTS[value](),
         "comments": lambda: commented(value),
+        "numbered": lambda: numbered(value),
     }[form]()
     save(rest[1] if form == "script" else rest[0], made)
 
