@@ -13,7 +13,7 @@ use Rattle.redl_join.specs.LastWords.{last_words}
 use Rattle.redl_join.specs.Verdicts.{verdict_at}
 use Rattle.redl_join.specs.declared.verdict.Verdict.{Verdict}
 use Rattle.redl_formats.specs.Dates.{date_text}
-use Rattle.redl_page.specs.Changes.{opens_item, has_item, change, change_head, change_state, changes, item_words, rank_words, saying, saying_end, saying_start, verdict_before, word_after, word_before, words_in, words_text, locked_before}
+use Rattle.redl_page.specs.Changes.{opens_item, has_item, change, change_head, change_links, change_state, changes, item_words, rank_words, remarks_attribute, saying, saying_end, saying_start, verdict_before, word_after, word_before, words_in, words_text, locked_before}
 use Rattle.redl_page.specs.declared.item.ItemWords.{ItemWords}
 use Rattle.redl_html.specs.Escaping.{escaped}
 use Rattle.redl_html.specs.Pieces.{HtmlPiece, outside, own, pieces_text}
@@ -23,16 +23,29 @@ use Rattle.redl_html.proofs.PieceLaws.{pieces_text-append}
 -- ---- what is written
 
 pub change-text : (revision : Revision) (verdict : Verdict) (locked : Bool) (said : ItemWords) (words : List Entry) → pieces_text (change revision verdict locked said words)
-    ≡ pieces_text (change_head revision) ++ (pieces_text (change_state verdict locked) ++ (pieces_text (item_words said) ++ (pieces_text (flat_map saying words) ++ codes "</li>\n")))
+    ≡ pieces_text (change_head revision)
+    ++ (pieces_text (change_links said) ++ (pieces_text (change_state verdict locked) ++ (pieces_text (item_words said) ++ (pieces_text (flat_map saying words) ++ codes "</li>\n"))))
 change-text revision verdict locked said words =
     let sayings : List HtmlPiece = flat_map saying words ++ (own "</li>\n" ∷ []) in
-    pieces_text-append (change_head revision) (change_state verdict locked ++ (item_words said ++ sayings))
+    pieces_text-append (change_head revision) (change_links said ++ (change_state verdict locked ++ (item_words said ++ sayings)))
     ∙ ap (λ l. pieces_text (change_head revision) ++ l) (
+    pieces_text-append (change_links said) (change_state verdict locked ++ (item_words said ++ sayings))
+    ∙ ap (λ l. pieces_text (change_links said) ++ l) (
     pieces_text-append (change_state verdict locked) (item_words said ++ sayings)
     ∙ ap (λ l. pieces_text (change_state verdict locked) ++ l) (
     pieces_text-append (item_words said) sayings
     ∙ ap (λ l. pieces_text (item_words said) ++ l) (pieces_text-append (flat_map saying words) (own "</li>\n" ∷ []))
-    ))
+    )))
+
+pub links-text : (said : ItemWords) → pieces_text (change_links said) ≡ (codes "\" data-edit=\"" ++ (decimal said.edit ++ [])) ++ pieces_text (remarks_attribute said.remarks)
+links-text said =
+    ap (λ l. codes "\" data-edit=\"" ++ (l ++ pieces_text (remarks_attribute said.remarks))) (sym (append-nil (decimal said.edit)))
+    ∙ sym (append_assoc (codes "\" data-edit=\"") (decimal said.edit ++ []) (pieces_text (remarks_attribute said.remarks)))
+
+pub remarks-text : (ids : List ℕ) → (length ids == 0) ≡ false → pieces_text (remarks_attribute ids) ≡ codes "\" data-remarks=\"" ++ escaped ids
+remarks-text ids some =
+    ap (λ (b : Bool). pieces_text (if b then [] else own "\" data-remarks=\"" ∷ outside ids ∷ [])) some
+    ∙ ap (λ l. codes "\" data-remarks=\"" ++ l) (append-nil (escaped ids))
 
 words_in-text : (before : String) (text : List ℕ) → pieces_text (words_in before text) ≡ words_text (codes before) text
 words_in-text before text = by (length text == 0)

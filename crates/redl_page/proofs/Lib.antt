@@ -1,3 +1,4 @@
 pub mod ChangeLaws
 pub mod PageLaws
+pub mod FactLaws
 pub mod ReviewerLaws

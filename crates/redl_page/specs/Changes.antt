@@ -1,5 +1,6 @@
--- The list of changes beside the document (our own rule): an item for each revision in the order of the numbers, with its clause, its
--- place, what it changes where it is a change of properties, and the last words of each reviewer on it; and the reviewers, each with the greatest sequence number of their entries.
+-- The list of changes beside the document (our own rule): an item for each revision in the order of the numbers, with its edit, the
+-- comments on it, its clause, its place, what it changes where it is a change of properties, and the last words of each reviewer on it;
+-- and the reviewers, each with the greatest sequence number of their entries.
 use Prim.Native.String.{String}
 use Rattle.std.specs.Prelude.{ℕ, ◌==◌, List, [], ◌∷◌, ◌++◌, Bool, true, false, Option, Some, None, codes, length, if◌then◌else◌}
 use Rattle.std.specs.List.{flat_map}
@@ -61,6 +62,14 @@ change_head revision =
     own "<li id=\"revision-" ∷ number revision.number ∷ own "\" data-kind=\"" ∷ outside (kind_name revision.kind)
     ∷ own "\" data-author=\"" ∷ outside revision.author ∷ own "\" data-date=\"" ∷ outside (date_text revision.seconds) ∷ []
 
+-- the ids of the comments on it, where there are any
+abbrev pub remarks_attribute : List ℕ → List HtmlPiece
+remarks_attribute ids = if length ids == 0 then [] else own "\" data-remarks=\"" ∷ outside ids ∷ []
+
+-- the edit that it belongs to, and those comments
+abbrev pub change_links : ItemWords → List HtmlPiece
+change_links said = own "\" data-edit=\"" ∷ number said.edit ∷ remarks_attribute said.remarks
+
 abbrev pub change_state : Verdict → Bool → List HtmlPiece
 change_state verdict locked = own (verdict_before verdict) ∷ own (locked_before locked) ∷ []
 
@@ -80,7 +89,8 @@ item_words said =
 
 abbrev pub change : Revision → Verdict → Bool → ItemWords → List Entry → List HtmlPiece
 change revision verdict locked said words =
-    change_head revision ++ (change_state verdict locked ++ (item_words said ++ (flat_map saying words ++ (own "</li>\n" ∷ []))))
+    change_head revision
+    ++ (change_links said ++ (change_state verdict locked ++ (item_words said ++ (flat_map saying words ++ (own "</li>\n" ∷ [])))))
 
 -- the revisions of a package, where these are locked or not and this is said of them, under the entries of a book
 abbrev pub changes : List Entry → List Revision → List Bool → List ItemWords → List HtmlPiece

@@ -1,15 +1,17 @@
 -- The page: one document of HTML (the living standard) that shows a package with its changes. It is a function of the package, of the
 -- book, of what is locked, of the digest, of what the sender gives, and of the skin: the program's own policy, style and script.
 use Prim.Native.String.{String}
-use Rattle.std.specs.Prelude.{ℕ, List, [], ◌∷◌, ◌++◌, Bool, true, Option, Some, None, length}
+use Rattle.std.specs.Prelude.{ℕ, List, [], ◌∷◌, ◌++◌, Bool, true, false, Option, Some, None, length}
 use Rattle.hex.specs.Hex.{encode_lower}
 use Rattle.redl_tree.specs.Model.Nodes.{Nodes}
-use Rattle.redl_opc.specs.Shape.{parts_of}
 use Rattle.redl_index.specs.declared.revision.Revision.{Revision}
 use Rattle.redl_journal.specs.declared.entry.Entry.{Entry}
 use Rattle.redl_shown.specs.Shown.{shown}
 use Rattle.redl_html.specs.Pieces.{HtmlPiece, own, number, outside, pieces_text}
-use Rattle.redl_page_stories.specs.Document.{sections}
+use Rattle.redl_page_stories.specs.Document.{document_pieces}
+use Rattle.redl_page_remarks.specs.Remarks.{package_remarks}
+use Rattle.redl_page_numbers.specs.Pieces.{numbers_pieces}
+use Rattle.redl_page_pictures.specs.List.{package_list}
 use Rattle.redl_page.specs.Changes.{changes, reviewers}
 use Rattle.redl_page.specs.declared.item.ItemWords.{ItemWords}
 
@@ -19,13 +21,14 @@ pub record Skin : Type 0 where
   pub style : List ℕ
   pub script : List ℕ
 
--- what the sender of a page gives: a title of the document, and a rank for what is decided on the page
+-- what the sender of a page gives: a title of the document, a rank for what is decided on the page, and whether it has the pictures
 pub record Heading : Type 0 where
   pub title : Option (List ℕ)
   pub rank : Option ℕ
+  pub pictures : Bool
 
-abbrev pub heading_with : Option (List ℕ) → Option ℕ → Heading
-heading_with title rank = record { title = title; rank = rank }
+abbrev pub heading_with : Option (List ℕ) → Option ℕ → Bool → Heading
+heading_with title rank pictures = record { title = title; rank = rank; pictures = pictures }
 
 -- a package with its revisions, which of these are locked, what is said of each of them, the book of its journals, its digest,
 -- and what the sender gives
@@ -72,7 +75,15 @@ abbrev pub body_head : List ℕ → ℕ → Heading → List HtmlPiece
 body_head digest count heading = body_start digest count ++ (heading_attributes heading ++ (own "\">\n<main lang=\"\">\n" ∷ []))
 
 abbrev pub reviewer_list : List Entry → List HtmlPiece
-reviewer_list book = own "</ol>\n<ul>\n" ∷ (reviewers book ++ (own "</ul>\n</aside>\n<script>" ∷ []))
+reviewer_list book = own "</ol>\n<ul>\n" ∷ (reviewers book ++ (own "</ul>\n" ∷ []))
+
+abbrev pub picture_list : Bool → Nodes → List HtmlPiece
+picture_list false nodes = []
+picture_list true nodes = package_list nodes
+
+-- what the script shows beside the text: the comments, the numbers of paragraphs, and the pictures
+abbrev pub fact_lists : Bool → Nodes → List HtmlPiece
+fact_lists pictures nodes = package_remarks nodes ++ (numbers_pieces nodes ++ (picture_list pictures nodes ++ (own "</aside>\n<script>" ∷ [])))
 
 -- before the list of changes: without its script a page says so
 abbrev pub before_changes : String
@@ -81,12 +92,13 @@ before_changes =
 
 abbrev pub lists : Shown → List HtmlPiece
 lists page =
-    own before_changes ∷ (changes page.book page.revisions page.locked page.said ++ reviewer_list page.book)
+    own before_changes
+    ∷ (changes page.book page.revisions page.locked page.said ++ (reviewer_list page.book ++ fact_lists page.heading.pictures page.nodes))
 
--- the document, the list of changes, and the reviewers
+-- the document, the list of changes, the reviewers, and what is shown beside the text
 abbrev pub body : Shown → List HtmlPiece
 body page =
-    body_head page.digest (length page.revisions) page.heading ++ (sections shown page.revisions true (parts_of page.nodes) ++ lists page)
+    body_head page.digest (length page.revisions) page.heading ++ (document_pieces shown page.revisions page.nodes ++ lists page)
 
 abbrev pub after_script : List HtmlPiece
 after_script = own "</script>\n</body>\n</html>\n" ∷ []

@@ -9,7 +9,7 @@ ghost use Rattle.redl_index.specs.Revisions.{IsListable};
 ghost use Rattle.redl_join.specs.LastWords.{last_words, words_on};
 ghost use Rattle.redl_formats.specs.Dates.{date_text, moment_text};
 ghost use Rattle.redl_stamp.specs.Moment.{IsMoment};
-ghost use Rattle.redl_page.specs.Changes.{change, change_head, change_state, changes, item_words, locked_before, rank_words, saying, saying_end, verdict_before, word_after, word_before, words_text};
+ghost use Rattle.redl_page.specs.Changes.{change, change_head, change_links, change_state, changes, item_words, locked_before, rank_words, remarks_attribute, saying, saying_end, verdict_before, word_after, word_before, words_text};
 ghost use Rattle.redl_html.specs.Escaping.{escaped};
 ghost use Rattle.redl_html.specs.Pieces.{pieces_text};
 
@@ -81,6 +81,7 @@ fn put_change<K: Sink>(
     ensures { Puts K.told K.faults K.settled K.lenders out.old out.new (pieces_text (change revision.now verdict locked said.now (map deref words.now))) result }
 {
     put_change_head(revision, out)?;
+    put_links(said, out)?;
     put_change_state(verdict, locked, out)?;
     put_item_words(said, out)?;
     put_sayings(words, out)?;
@@ -147,6 +148,32 @@ fn put_moment<K: Sink>(seconds: i64, out: &mut K) -> Result<(), Failed>
 {
     let text = moment_text(seconds);
     put_attribute(b"\" data-date=\"", &text, out)
+}
+
+// Puts the edit that a revision belongs to, and the comments on it.
+fn put_links<K: Sink>(said: &ItemWords, out: &mut K) -> Result<(), Failed>
+    ensures { Puts K.told K.faults K.settled K.lenders out.old out.new (pieces_text (change_links said.now)) result }
+{
+    put_edit(said.edit, out)?;
+    put_remark_ids(&said.remarks, out)
+}
+
+fn put_edit<K: Sink>(edit: u32, out: &mut K) -> Result<(), Failed>
+    ensures { Puts K.told K.faults K.settled K.lenders out.old out.new (codes "\" data-edit=\"" ++ (decimal edit ++ [])) result }
+{
+    let mut buffer = Buffer::new();
+    let digits = buffer.format(edit).as_bytes();
+    put_pieces(&[b"\" data-edit=\"".as_slice(), digits], out)
+}
+
+fn put_remark_ids<K: Sink>(ids: &Text, out: &mut K) -> Result<(), Failed>
+    ensures { Puts K.told K.faults K.settled K.lenders out.old out.new (pieces_text (remarks_attribute ids.now)) result }
+{
+    let bytes = ids.as_bytes();
+    if bytes.is_empty() {
+        return Ok(());
+    }
+    put_attribute(b"\" data-remarks=\"", bytes, out)
 }
 
 fn put_change_state<K: Sink>(verdict: Verdict, locked: bool, out: &mut K) -> Result<(), Failed>

@@ -3,11 +3,14 @@
 ghost use Rattle.std.specs.Prelude.{◌≡◌, ◌++◌, [], ℕ, Some, codes, decimal, length, option_map};
 ghost use Rattle.redl_io.specs.Sink.{Puts};
 ghost use Rattle.redl_join.specs.LastWords.{last_words, words_on};
-ghost use Rattle.redl_page.specs.Page.{body, body_head, body_start, end_text, head_text, heading_attributes, lists, page_text, rank_attribute, reviewer_list, title_attribute, title_piece};
+ghost use Rattle.redl_page.specs.Page.{body, body_head, body_start, end_text, fact_lists, head_text, heading_attributes, lists, page_text, picture_list, rank_attribute, reviewer_list, title_attribute, title_piece};
 ghost use Rattle.redl_html.specs.Pieces.{piece_text, pieces_text};
-ghost use Rattle.redl_page.specs.PageViews.{heading_view, shown_by, skin_view};
+ghost use Rattle.redl_page_stories.specs.Document.{document_pieces};
+ghost use Rattle.redl_shown.specs.Shown.{shown};
+ghost use Rattle.redl_page.specs.PageViews.{AreFacts, heading_view, shown_by, skin_view};
 
 use crate::changes::{put_attribute, put_changes};
+use crate::facts::PageFacts;
 use crate::item::ItemWords;
 use crate::reviewers::put_reviewers;
 use itoa::Buffer;
@@ -17,7 +20,10 @@ use redl_io::{Failed, Sink, put_piece, put_pieces};
 use redl_join::{Book, LastWords};
 use redl_journal::digest_digits;
 use redl_opc::Package;
-use redl_page_stories::put_document;
+use redl_page_numbers::put_numbers;
+use redl_page_pictures::put_pictures;
+use redl_page_remarks::put_remarks;
+use redl_page_stories::{StoryFacts, put_document};
 
 /// What the program brings to every page, and what stands in it as it is: the content security policy, which is the value of an
 /// attribute between quotes, the style, and the script.
@@ -38,6 +44,8 @@ pub struct Heading<'a> {
     pub title: Option<&'a [u8]>,
     /// A rank for what is decided on the page.
     pub rank: Option<u8>,
+    /// Whether the page has the pictures of the package.
+    pub pictures: bool,
 }
 
 /// What a page shows, of a package whose revisions are numbered.
@@ -47,6 +55,8 @@ pub struct Shown<'a, 'b> {
     pub package: &'a Package<'b>,
     /// Its revisions.
     pub index: &'a Index,
+    /// What is known of the package.
+    pub facts: &'a PageFacts<'b>,
     /// Whether each revision is locked, in the order of their numbers.
     pub locked: &'a [bool],
     /// What is said of each revision beside its row, in the order of their numbers.
@@ -76,8 +86,10 @@ const AFTER_SCRIPT: &[u8] = b"</script>\n</body>\n</html>\n";
 /// Puts the page: one document of HTML with the stories of the package, an element for each member of a revision, the list of the
 /// revisions with each reviewer's last words, and the reviewers.
 ///
-/// `words` are the last words of the book. `locked` says of each revision whether it is locked, and `said` what is said of it. It goes once over the
-/// package and once over the revisions, and takes no memory. `Failed` comes only where the sink failed, which then has only a prefix.
+/// After the reviewers come the comments, the numbers of paragraphs, and the pictures if the sender wants them. `facts` are those of the
+/// package, and `words` the last words of the book. `locked` says of each revision whether it is locked, and `said` what is said of it. It
+/// goes once over the package and once over the revisions, and takes no memory. `Failed` comes only where the sink failed, which then has
+/// only a prefix.
 pub fn write_page<K: Sink>(
     skin: &Skin<'_>,
     page: &Shown<'_, '_>,
@@ -85,6 +97,7 @@ pub fn write_page<K: Sink>(
     out: &mut K,
 ) -> Result<(), Failed>
     requires words { (rev : ℕ) → words_on words.now rev ≡ last_words page.now.book.now rev }
+    requires facts { AreFacts page.now.facts.now page.now.package.now }
     requires locked { length page.now.locked.now ≡ length page.now.index.now }
     requires said { length page.now.said.now ≡ length page.now.index.now }
     ensures { Puts K.told K.faults K.settled K.lenders out.old out.new (page_text (skin_view skin.now) (shown_by page.now)) result }
@@ -120,13 +133,26 @@ fn put_end<K: Sink>(skin: &Skin<'_>, out: &mut K) -> Result<(), Failed>
 
 fn put_body<K: Sink>(page: &Shown<'_, '_>, words: &LastWords<'_>, out: &mut K) -> Result<(), Failed>
     requires words { (rev : ℕ) → words_on words.now rev ≡ last_words page.now.book.now rev }
+    requires facts { AreFacts page.now.facts.now page.now.package.now }
     requires locked { length page.now.locked.now ≡ length page.now.index.now }
     requires said { length page.now.said.now ≡ length page.now.index.now }
     ensures { Puts K.told K.faults K.settled K.lenders out.old out.new (pieces_text (body (shown_by page.now))) result }
 {
     put_body_head(page.digest, page.index.count(), page.heading, out)?;
-    put_document(page.package, page.index, out)?;
+    put_stories(page, out)?;
     put_lists(page, words, out)
+}
+
+fn put_stories<K: Sink>(page: &Shown<'_, '_>, out: &mut K) -> Result<(), Failed>
+    requires { AreFacts page.now.facts.now page.now.package.now }
+    ensures { Puts K.told K.faults K.settled K.lenders out.old out.new (pieces_text (document_pieces shown page.now.index.now page.now.package.now)) result }
+{
+    let facts = StoryFacts {
+        index: page.index,
+        signs: &page.facts.signs,
+        hidden: &page.facts.hidden,
+    };
+    put_document(page.package, &facts, out)
 }
 
 fn put_body_head<K: Sink>(
@@ -204,13 +230,15 @@ fn put_lists<K: Sink>(
     out: &mut K,
 ) -> Result<(), Failed>
     requires words { (rev : ℕ) → words_on words.now rev ≡ last_words page.now.book.now rev }
+    requires facts { AreFacts page.now.facts.now page.now.package.now }
     requires locked { length page.now.locked.now ≡ length page.now.index.now }
     requires said { length page.now.said.now ≡ length page.now.index.now }
     ensures { Puts K.told K.faults K.settled K.lenders out.old out.new (pieces_text (lists (shown_by page.now))) result }
 {
     put_piece(BEFORE_CHANGES, out)?;
     put_changes(page.index, page.book, words, page.locked, page.said, out)?;
-    put_reviewer_list(page.book, out)
+    put_reviewer_list(page.book, out)?;
+    put_fact_lists(page, out)
 }
 
 fn put_reviewer_list<K: Sink>(book: &Book, out: &mut K) -> Result<(), Failed>
@@ -218,5 +246,27 @@ fn put_reviewer_list<K: Sink>(book: &Book, out: &mut K) -> Result<(), Failed>
 {
     put_piece(b"</ol>\n<ul>\n", out)?;
     put_reviewers(book, out)?;
-    put_piece(b"</ul>\n</aside>\n<script>", out)
+    put_piece(b"</ul>\n", out)
+}
+
+// Puts what is shown beside the text.
+fn put_fact_lists<K: Sink>(page: &Shown<'_, '_>, out: &mut K) -> Result<(), Failed>
+    requires { AreFacts page.now.facts.now page.now.package.now }
+    ensures { Puts K.told K.faults K.settled K.lenders out.old out.new (pieces_text (fact_lists page.now.heading.pictures page.now.package.now)) result }
+{
+    put_remarks(&page.facts.comments, &page.facts.threads, out)?;
+    put_numbers(&page.facts.numbers, out)?;
+    put_picture_list(page, out)?;
+    put_piece(b"</aside>\n<script>", out)
+}
+
+// Puts the pictures, if the sender wants them.
+fn put_picture_list<K: Sink>(page: &Shown<'_, '_>, out: &mut K) -> Result<(), Failed>
+    requires { AreFacts page.now.facts.now page.now.package.now }
+    ensures { Puts K.told K.faults K.settled K.lenders out.old out.new (pieces_text (picture_list page.now.heading.pictures page.now.package.now)) result }
+{
+    match page.heading.pictures {
+        true => put_pictures(&page.facts.pictures, out),
+        false => Ok(()),
+    }
 }

@@ -8,12 +8,12 @@ pub returns-in_err-put_body_head : goal.returns-in_err-put_body_head
 returns-in_err-put_body_head g c =
     puts_fails _ (body-text (shown_by c.args.page.now)) c.from_residual.ensures.1 (rw c.count.ensures at c.in_err-put_body_head.ensures)
 
-pub returns-in_err-put_document : goal.returns-in_err-put_document
-returns-in_err-put_document g c =
+pub returns-in_err-put_stories : goal.returns-in_err-put_stories
+returns-in_err-put_stories g c =
     puts_then (body-text (shown_by c.args.page.now)) (rw c.count.ensures at c.in_ok-put_body_head.ensures)
-    (puts_fails _ refl c.from_residual-in_err-put_document.ensures.1 c.in_err-put_document.ensures)
+    (puts_fails _ refl c.from_residual-in_err-put_stories.ensures.1 c.in_err-put_stories.ensures)
 
 pub returns : goal.returns
 returns g c =
     puts_then (body-text (shown_by c.args.page.now)) (rw c.count.ensures at c.in_ok-put_body_head.ensures)
-    (puts_then refl c.in_ok-put_document.ensures c.put_lists.ensures)
+    (puts_then refl c.in_ok-put_stories.ensures c.put_lists.ensures)

@@ -11,6 +11,12 @@ pub returns-in_err-put_changes : goal.returns-in_err-put_changes
 returns-in_err-put_changes g c =
     puts_then (lists-text (shown_by c.args.page.now)) c.in_ok-put_piece.ensures (puts_fails _ refl c.from_residual-in_err-put_changes.ensures.1 c.in_err-put_changes.ensures)
 
+pub returns-in_err-put_reviewer_list : goal.returns-in_err-put_reviewer_list
+returns-in_err-put_reviewer_list g c =
+    puts_then (lists-text (shown_by c.args.page.now)) c.in_ok-put_piece.ensures
+    (puts_then refl c.in_ok-put_changes.ensures (puts_fails _ refl c.from_residual-in_err-put_reviewer_list.ensures.1 c.in_err-put_reviewer_list.ensures))
+
 pub returns : goal.returns
 returns g c =
-    puts_then (lists-text (shown_by c.args.page.now)) c.in_ok-put_piece.ensures (puts_then refl c.in_ok-put_changes.ensures c.put_reviewer_list.ensures)
+    puts_then (lists-text (shown_by c.args.page.now)) c.in_ok-put_piece.ensures
+    (puts_then refl c.in_ok-put_changes.ensures (puts_then refl c.in_ok-put_reviewer_list.ensures c.put_fact_lists.ensures))
