@@ -11,8 +11,7 @@ use Rattle.redl_places.specs.Views.{signs_of}
 use Rattle.redl_hidden.specs.Styles.{package_hidden}
 use Rattle.redl_comments.specs.Comments.{comments_of}
 use Rattle.redl_comments.specs.Threads.{package_threads}
-use Rattle.redl_page_numbers.specs.Pieces.{numbers_pieces}
-use Rattle.redl_page_numbers.specs.Views.{pieces_of}
+use Rattle.redl_page_numbers.specs.Package.{package_numbers}
 use Rattle.redl_page_pictures.specs.Pictures.{package_pictures}
 
 -- the fixed parts of a page as plain data
@@ -39,7 +38,7 @@ shown_by page = record {
 pub record AreFacts (facts : PageFacts) (nodes : Nodes) : Type 0 where
   pub signs : signs_of facts.signs ≡ package_signs nodes
   pub hidden : facts.hidden ≡ package_hidden nodes
-  pub numbers : pieces_of facts.numbers ≡ numbers_pieces nodes
+  pub numbers : facts.numbers ≡ package_numbers nodes
   pub comments : facts.comments.items ≡ comments_of nodes
   pub threads : facts.threads ≡ package_threads nodes
   pub pictures : facts.pictures ≡ package_pictures nodes
