@@ -1,2 +1,3 @@
 pub mod NoteLaws
 mod NoteRows
+pub mod AskLaws

@@ -6,6 +6,7 @@ use Rattle.redl_commands.specs.Join.{book_text}
 use Rattle.redl_inputs.specs.Readers.{Reader}
 use Rattle.redl_inputs.specs.Steps.{◌>>=◌}
 use Rattle.redl_commands.specs.Writing.{Writing}
+use Rattle.redl_edits.specs.Edits.{package_edits}
 use Rattle.redl_io.specs.Shelf.{Files}
 use Rattle.redl_join.specs.Verdicts.{greatest_seq}
 use Rattle.redl_journal.specs.declared.entry.Word.{Word}
@@ -21,7 +22,7 @@ next_seq reviewer seq = if seq == 2 ^ 32 - 1 then Err (caused (no_sequence revie
 abbrev pub with_choices : List ℕ → ℕ → List (Word × Selection) → Admission → Result Admission Failure
 with_choices reviewer rank choices before = do
   seq ← next_seq reviewer (greatest_seq before.state.book reviewer)
-  Ok (admission_with before (chosen_entries reviewer rank seq before.state.revisions choices))
+  Ok (admission_with before (chosen_entries reviewer rank seq before.state.revisions (package_edits before.state.nodes before.state.revisions) choices))
 
 -- the journal of the session's book
 abbrev pub book_written : Admission → Writing

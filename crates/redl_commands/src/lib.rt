@@ -9,9 +9,11 @@
 #![tactic(auto)]
 
 mod collected;
+mod edits;
 mod notes;
 mod output;
 
 pub use collected::Collected;
+pub use edits::edits_if;
 pub use notes::{note_again, note_marks};
 pub use output::{Output, Writing, put};
