@@ -24,41 +24,21 @@ switches_same name tag e = ap (λ s. (is_w s && bytes_eq tag.local name) && not 
 is_same : (tag : Tag) → tag.space ≡ W → is "rPr" tag ≡ is "rPr" (of_w tag.local)
 is_same tag e = ap (λ s. is_w s && bytes_eq tag.local (codes "rPr")) e
 
-hidden_noted : (tag : Tag) → has_byte 118 (letters_on Properties tag) ≡ switches (codes "vanish") tag
-hidden_noted tag = by (switches (codes "vanish") tag) (switches (codes "b") tag) (switches (codes "i") tag) where
-  by : (h b i : Bool) → has_byte 118 ((if h then codes "v" else []) ++ ((if b then codes "b" else []) ++ (if i then codes "i" else []))) ≡ h
-  by true true true = refl
-  by true true false = refl
-  by true false true = refl
-  by true false false = refl
-  by false true true = refl
-  by false true false = refl
-  by false false true = refl
-  by false false false = refl
-
 bold_noted : (tag : Tag) → has_byte 98 (letters_on Properties tag) ≡ switches (codes "b") tag
-bold_noted tag = by (switches (codes "vanish") tag) (switches (codes "b") tag) (switches (codes "i") tag) where
-  by : (h b i : Bool) → has_byte 98 ((if h then codes "v" else []) ++ ((if b then codes "b" else []) ++ (if i then codes "i" else []))) ≡ b
-  by true true true = refl
-  by true true false = refl
-  by true false true = refl
-  by true false false = refl
-  by false true true = refl
-  by false true false = refl
-  by false false true = refl
-  by false false false = refl
+bold_noted tag = by (switches (codes "b") tag) (switches (codes "i") tag) where
+  by : (b i : Bool) → has_byte 98 ((if b then codes "b" else []) ++ (if i then codes "i" else [])) ≡ b
+  by true true = refl
+  by true false = refl
+  by false true = refl
+  by false false = refl
 
 italic_noted : (tag : Tag) → has_byte 105 (letters_on Properties tag) ≡ switches (codes "i") tag
-italic_noted tag = by (switches (codes "vanish") tag) (switches (codes "b") tag) (switches (codes "i") tag) where
-  by : (h b i : Bool) → has_byte 105 ((if h then codes "v" else []) ++ ((if b then codes "b" else []) ++ (if i then codes "i" else []))) ≡ i
-  by true true true = refl
-  by true true false = refl
-  by true false true = refl
-  by true false false = refl
-  by false true true = refl
-  by false true false = refl
-  by false false true = refl
-  by false false false = refl
+italic_noted tag = by (switches (codes "b") tag) (switches (codes "i") tag) where
+  by : (b i : Bool) → has_byte 105 ((if b then codes "b" else []) ++ (if i then codes "i" else [])) ≡ i
+  by true true = refl
+  by true false = refl
+  by false true = refl
+  by false false = refl
 
 -- ---- nodes
 
@@ -99,17 +79,11 @@ module _ (byte : ℕ) (name : List ℕ) (noted : (tag : Tag) → has_byte byte (
       ∙ ap (λ p. (p && switched_on name kids) || has_byte byte later) (sym (is_same tag h.0.of_space))
       ∙ ap (λ b. (is "rPr" tag && switched_on name kids) || b) (run_notes rest h.3)
 
-pub hidden_in_run : (nodes : Nodes) → AreLaid W nodes → has_byte 118 (shows emphasis_rule Kids nodes) ≡ has_property (codes "vanish") nodes
-hidden_in_run nodes h = run_notes 118 (codes "vanish") hidden_noted nodes h
-
 pub bold_in_run : (nodes : Nodes) → AreLaid W nodes → has_byte 98 (shows emphasis_rule Kids nodes) ≡ has_property (codes "b") nodes
 bold_in_run nodes h = run_notes 98 (codes "b") bold_noted nodes h
 
 pub italic_in_run : (nodes : Nodes) → AreLaid W nodes → has_byte 105 (shows emphasis_rule Kids nodes) ≡ has_property (codes "i") nodes
 italic_in_run nodes h = run_notes 105 (codes "i") italic_noted nodes h
-
-pub hidden_idle : (t : List ℕ) → has_byte 118 (shows emphasis_rule Properties (idle_nodes t)) ≡ switched_on (codes "vanish") (idle_nodes t)
-hidden_idle t = properties_note 118 (codes "vanish") hidden_noted (idle_nodes t) (idle_laid t)
 
 pub bold_idle : (t : List ℕ) → has_byte 98 (shows emphasis_rule Properties (idle_nodes t)) ≡ switched_on (codes "b") (idle_nodes t)
 bold_idle t = properties_note 98 (codes "b") bold_noted (idle_nodes t) (idle_laid t)

@@ -29,7 +29,8 @@ use Rattle.redl_html.specs.Pieces.{HtmlPiece, own}
 use Rattle.redl_html.proofs.NumberLaws.{has-left, has-right}
 use Rattle.redl_page_stories.specs.Shapes.{shape_of, holds_blocks}
 use Rattle.redl_page_stories.specs.Signs.{opens_number, has_element, before, member, is_member, has_member}
-use Rattle.redl_page_stories.specs.Document.{marks_in, bytes_pieces, start_as, end_as, inside, element_pieces, nodes_pieces, in_story, section_name, section_start, section, section_in, sections, is_first_after}
+use Rattle.redl_page_stories.specs.Facts.{Facts, package_facts}
+use Rattle.redl_page_stories.specs.Document.{bytes_pieces, document_pieces, element_pieces, end_as, in_story, inside, is_first_after, is_sort, marks_in, nodes_pieces, section, section_heading, section_in, section_start, sections, start_as, stories_pieces}
 use Rattle.redl_page_stories.specs.Inside.Items.{element_marks}
 
 -- ---- the element of a member
@@ -143,56 +144,56 @@ waits_here revisions v ancestors tag kids rest trace k e p =
 
 -- ---- nodes
 
-module _ (shown : List ℕ → List ℕ) (revisions : List Revision) (v : ℕ) where
+module _ (shown : List ℕ → List ℕ) (facts : Facts) (v : ℕ) where
   abbrev Found : PageSummary → List Tag → Nodes → Type 0
-  Found place ancestors nodes = (has_element v (nodes_pieces shown revisions place nodes) ≡ true) ⊎ Waits revisions v ancestors nodes
+  Found place ancestors nodes = (has_element v (nodes_pieces shown facts place nodes) ≡ true) ⊎ Waits facts.revisions v ancestors nodes
 
-  found_start : (place : PageSummary) (ancestors : List Tag) (tag : Tag) (kids rest : Nodes) → has_element v (start_as revisions (shape_of place.loud tag kids) tag kids tag.kind) ≡ true → Found place ancestors (element tag kids rest)
+  found_start : (place : PageSummary) (ancestors : List Tag) (tag : Tag) (kids rest : Nodes) → has_element v (start_as facts (shape_of facts.hidden place tag kids) tag kids tag.kind) ≡ true → Found place ancestors (element tag kids rest)
   found_start place ancestors tag kids rest h =
-      inl (has-left opens_number v (element_pieces revisions place tag kids (nodes_pieces shown revisions (inside tag place) kids)) (nodes_pieces shown revisions place rest)
-      (has-left opens_number v (start_as revisions (shape_of place.loud tag kids) tag kids tag.kind) (nodes_pieces shown revisions (inside tag place) kids ++ end_as revisions (shape_of place.loud tag kids) kids tag.kind) h))
+      inl (has-left opens_number v (element_pieces facts place tag kids (nodes_pieces shown facts (inside facts.hidden tag kids place) kids)) (nodes_pieces shown facts place rest)
+      (has-left opens_number v (start_as facts (shape_of facts.hidden place tag kids) tag kids tag.kind) (nodes_pieces shown facts (inside facts.hidden tag kids place) kids ++ end_as facts.revisions (shape_of facts.hidden place tag kids) kids tag.kind) h))
 
-  found_inner : (place : PageSummary) (ancestors : List Tag) (tag : Tag) (kids rest : Nodes) → has_element v (nodes_pieces shown revisions (inside tag place) kids ++ end_as revisions (shape_of place.loud tag kids) kids tag.kind) ≡ true →
+  found_inner : (place : PageSummary) (ancestors : List Tag) (tag : Tag) (kids rest : Nodes) → has_element v (nodes_pieces shown facts (inside facts.hidden tag kids place) kids ++ end_as facts.revisions (shape_of facts.hidden place tag kids) kids tag.kind) ≡ true →
       Found place ancestors (element tag kids rest)
   found_inner place ancestors tag kids rest h =
-      inl (has-left opens_number v (element_pieces revisions place tag kids (nodes_pieces shown revisions (inside tag place) kids)) (nodes_pieces shown revisions place rest)
-      (has-right opens_number v (start_as revisions (shape_of place.loud tag kids) tag kids tag.kind) (nodes_pieces shown revisions (inside tag place) kids ++ end_as revisions (shape_of place.loud tag kids) kids tag.kind) h))
+      inl (has-left opens_number v (element_pieces facts place tag kids (nodes_pieces shown facts (inside facts.hidden tag kids place) kids)) (nodes_pieces shown facts place rest)
+      (has-right opens_number v (start_as facts (shape_of facts.hidden place tag kids) tag kids tag.kind) (nodes_pieces shown facts (inside facts.hidden tag kids place) kids ++ end_as facts.revisions (shape_of facts.hidden place tag kids) kids tag.kind) h))
 
   -- an element that is a member
   found_here : (place : PageSummary) (ancestors : List Tag) (tag : Tag) (kids rest : Nodes) (kind : Kind) → tag.kind ≡ kind → is_member kind ≡ true → eqb tag.rev v ≡ true → Fits ancestors tag →
       Found place ancestors (element tag kids rest)
   found_here place ancestors tag kids rest Plain k m e fit = cc
   found_here place ancestors tag kids rest (Content trace) k m e fit =
-      found_start place ancestors tag kids rest (rw k (member-has revisions (Content trace) tag.rev v refl e))
-  found_here place ancestors tag kids rest (Mark trace) k m e fit = inr (waits_here revisions v ancestors tag kids rest trace k e (fits_mark ancestors tag trace fit k))
-  found_here place ancestors tag kids rest (Row trace) k m e fit = found_start place ancestors tag kids rest (rw k (member-has revisions (Row trace) tag.rev v refl e))
-  found_here place ancestors tag kids rest (Cell trace) k m e fit = found_start place ancestors tag kids rest (rw k (member-has revisions (Cell trace) tag.rev v refl e))
-  found_here place ancestors tag kids rest (Change prop) k m e fit = found_start place ancestors tag kids rest (rw k (member-has revisions (Change prop) tag.rev v refl e))
+      found_start place ancestors tag kids rest (rw k (member-has facts.revisions (Content trace) tag.rev v refl e))
+  found_here place ancestors tag kids rest (Mark trace) k m e fit = inr (waits_here facts.revisions v ancestors tag kids rest trace k e (fits_mark ancestors tag trace fit k))
+  found_here place ancestors tag kids rest (Row trace) k m e fit = found_start place ancestors tag kids rest (rw k (member-has facts.revisions (Row trace) tag.rev v refl e))
+  found_here place ancestors tag kids rest (Cell trace) k m e fit = found_start place ancestors tag kids rest (rw k (member-has facts.revisions (Cell trace) tag.rev v refl e))
+  found_here place ancestors tag kids rest (Change prop) k m e fit = found_start place ancestors tag kids rest (rw k (member-has facts.revisions (Change prop) tag.rev v refl e))
   found_here place ancestors tag kids rest Marker k m e fit = cc
 
   -- the end of an open paragraph has its marks
-  paragraph_end : (tag : Tag) (kids : Nodes) (loud : Bool) → loud ≡ true → is "p" tag ≡ true → tag.kind ≡ Plain → has_element v (marks_in revisions Kids kids) ≡ true →
-      has_element v (end_as revisions (shape_of loud tag kids) kids tag.kind) ≡ true
-  paragraph_end tag kids loud o p k h = rw (k, o, p) (at (holds_blocks kids))
+  paragraph_end : (tag : Tag) (kids : Nodes) (place : PageSummary) → place.loud ≡ true → is "p" tag ≡ true → tag.kind ≡ Plain → has_element v (marks_in facts.revisions Kids kids) ≡ true →
+      has_element v (end_as facts.revisions (shape_of facts.hidden place tag kids) kids tag.kind) ≡ true
+  paragraph_end tag kids place o p k h = rw (k, o, p) (at (holds_blocks kids))
     where
-      at : (b : Bool) → has_element v (end_as revisions (if b then Division else Paragraph) kids Plain) ≡ true
-      at true = has-left opens_number v (marks_in revisions Kids kids) _ h
-      at false = has-left opens_number v (marks_in revisions Kids kids) _ h
+      at : (b : Bool) → has_element v (end_as facts.revisions (if b then Division else Paragraph) kids Plain) ≡ true
+      at true = has-left opens_number v (marks_in facts.revisions Kids kids) _ h
+      at false = has-left opens_number v (marks_in facts.revisions Kids kids) _ h
 
   -- what waits among the kids of an element
-  found_waiting : (place : PageSummary) (ancestors : List Tag) (tag : Tag) (kids rest : Nodes) → place.loud ≡ is_open ancestors → Fits ancestors tag → Waits revisions v (tag ∷ ancestors) kids →
+  found_waiting : (place : PageSummary) (ancestors : List Tag) (tag : Tag) (kids rest : Nodes) → place.loud ≡ is_open ancestors → Fits ancestors tag → Waits facts.revisions v (tag ∷ ancestors) kids →
       Found place ancestors (element tag kids rest)
   found_waiting place ancestors tag kids rest o fit (in_run p h) =
       let both = and_parts (is "rPr" tag) (in_para_props ancestors) p in
-      inr (in_para both.1 (has-left opens_number v (element_marks revisions Properties tag kids) (marks_in revisions Properties rest) (rw both.0 h)))
+      inr (in_para both.1 (has-left opens_number v (element_marks facts.revisions Properties tag kids) (marks_in facts.revisions Properties rest) (rw both.0 h)))
   found_waiting place ancestors tag kids rest o fit (in_para p h) =
       let both = and_parts (is "pPr" tag) (within ("p" ∷ []) ancestors) p in
-      inr (in_kids both.1 (has-left opens_number v (element_marks revisions Kids tag kids) (marks_in revisions Kids rest) (rw both.0 h)))
+      inr (in_kids both.1 (has-left opens_number v (element_marks facts.revisions Kids tag kids) (marks_in facts.revisions Kids rest) (rw both.0 h)))
   found_waiting place ancestors tag kids rest o fit (in_kids p h) =
       let both = and_parts (is "p" tag) (is_open ancestors) p in
       found_inner place ancestors tag kids rest
-      (has-right opens_number v (nodes_pieces shown revisions (inside tag place) kids) (end_as revisions (shape_of place.loud tag kids) kids tag.kind)
-      (paragraph_end tag kids place.loud (o ∙ both.1) both.0 (paragraph_plain ancestors tag both.0 both.1 fit) h))
+      (has-right opens_number v (nodes_pieces shown facts (inside facts.hidden tag kids place) kids) (end_as facts.revisions (shape_of facts.hidden place tag kids) kids tag.kind)
+      (paragraph_end tag kids place (o ∙ both.1) both.0 (paragraph_plain ancestors tag both.0 both.1 fit) h))
 
   inside_open : (tag : Tag) (ancestors : List Tag) (loud : Bool) → loud ≡ is_open ancestors → (loud && not (is_quiet tag)) ≡ is_open (tag ∷ ancestors)
   inside_open tag ancestors loud e = ap (λ b. b && not (is_quiet tag)) e ∙ at (is_quiet tag) (list_any is_quiet ancestors)
@@ -208,26 +209,26 @@ module _ (shown : List ℕ → List ℕ) (revisions : List Revision) (v : ℕ) w
   found place ancestors (bytes b rest) o fit h = at (found place ancestors rest o fit h)
     where
       at : Found place ancestors rest → Found place ancestors (bytes b rest)
-      at (inl here) = inl (has-right opens_number v (bytes_pieces shown place b) (nodes_pieces shown revisions place rest) here)
-      at (inr waits) = inr (waits_bytes revisions v ancestors b rest waits)
+      at (inl here) = inl (has-right opens_number v (bytes_pieces shown place b) (nodes_pieces shown facts place rest) here)
+      at (inr waits) = inr (waits_bytes facts.revisions v ancestors b rest waits)
   found place ancestors (element tag kids rest) o fit h =
       by (or_cases ((is_member tag.kind && eqb tag.rev v) || has_member v kids) (has_member v rest) h)
-      (λ m. found (inside tag place) (tag ∷ ancestors) kids (inside_open tag ancestors place.loud o) fit.1 m) (λ m. found place ancestors rest o fit.2 m)
+      (λ m. found (inside facts.hidden tag kids place) (tag ∷ ancestors) kids (inside_open tag ancestors place.loud o) fit.1 m) (λ m. found place ancestors rest o fit.2 m)
     where
-      below : Found (inside tag place) (tag ∷ ancestors) kids → Found place ancestors (element tag kids rest)
-      below (inl here) = found_inner place ancestors tag kids rest (has-left opens_number v (nodes_pieces shown revisions (inside tag place) kids) (end_as revisions (shape_of place.loud tag kids) kids tag.kind) here)
+      below : Found (inside facts.hidden tag kids place) (tag ∷ ancestors) kids → Found place ancestors (element tag kids rest)
+      below (inl here) = found_inner place ancestors tag kids rest (has-left opens_number v (nodes_pieces shown facts (inside facts.hidden tag kids place) kids) (end_as facts.revisions (shape_of facts.hidden place tag kids) kids tag.kind) here)
       below (inr waits) = found_waiting place ancestors tag kids rest o fit.0 waits
 
       later : Found place ancestors rest → Found place ancestors (element tag kids rest)
       later (inl there) =
-          inl (has-right opens_number v (element_pieces revisions place tag kids (nodes_pieces shown revisions (inside tag place) kids)) (nodes_pieces shown revisions place rest) there)
-      later (inr waits) = inr (waits_rest revisions v ancestors tag kids rest waits)
+          inl (has-right opens_number v (element_pieces facts place tag kids (nodes_pieces shown facts (inside facts.hidden tag kids place) kids)) (nodes_pieces shown facts place rest) there)
+      later (inr waits) = inr (waits_rest facts.revisions v ancestors tag kids rest waits)
 
-      own_or_kids : ((is_member tag.kind && eqb tag.rev v) ≡ true) ⊎ (has_member v kids ≡ true) → (has_member v kids ≡ true → Found (inside tag place) (tag ∷ ancestors) kids) → Found place ancestors (element tag kids rest)
+      own_or_kids : ((is_member tag.kind && eqb tag.rev v) ≡ true) ⊎ (has_member v kids ≡ true) → (has_member v kids ≡ true → Found (inside facts.hidden tag kids place) (tag ∷ ancestors) kids) → Found place ancestors (element tag kids rest)
       own_or_kids (inl here) kid_found = let both = and_parts (is_member tag.kind) (eqb tag.rev v) here in found_here place ancestors tag kids rest tag.kind refl both.0 both.1 fit.0
       own_or_kids (inr kid) kid_found = below (kid_found kid)
 
-      by : (((is_member tag.kind && eqb tag.rev v) || has_member v kids) ≡ true) ⊎ (has_member v rest ≡ true) → (has_member v kids ≡ true → Found (inside tag place) (tag ∷ ancestors) kids)
+      by : (((is_member tag.kind && eqb tag.rev v) || has_member v kids) ≡ true) ⊎ (has_member v rest ≡ true) → (has_member v kids ≡ true → Found (inside facts.hidden tag kids place) (tag ∷ ancestors) kids)
           → (has_member v rest ≡ true → Found place ancestors rest) → Found place ancestors (element tag kids rest)
       by (inl here) kid_found rest_found = own_or_kids (or_cases (is_member tag.kind && eqb tag.rev v) (has_member v kids) here) kid_found
       by (inr there) kid_found rest_found = later (rest_found there)
@@ -240,46 +241,77 @@ module _ (shown : List ℕ → List ℕ) (revisions : List Revision) (v : ℕ) w
       by_names (λ t. (is "p" t ≡ false) × (is "pPr" t ≡ false) × (is "rPr" t ≡ false)) ("document" ∷ "hdr" ∷ "ftr" ∷ "footnotes" ∷ "endnotes" ∷ "comments" ∷ []) root r
       ((refl, refl, refl), ((refl, refl, refl), ((refl, refl, refl), ((refl, refl, refl), ((refl, refl, refl), ((refl, refl, refl), tt))))))
 
-  none_waits : (root : Tag) (nodes : Nodes) → is_story_root root ≡ true → Waits revisions v (root ∷ []) nodes → ⊥
+  none_waits : (root : Tag) (nodes : Nodes) → is_story_root root ≡ true → Waits facts.revisions v (root ∷ []) nodes → ⊥
   none_waits root nodes r (in_run p h) = let e = (and_parts (is "rPr" root) (in_para_props []) p).0 in let f = (no_root root r).2 in cc
   none_waits root nodes r (in_para p h) = let e = (and_parts (is "pPr" root) (within ("p" ∷ []) []) p).0 in let f = (no_root root r).1 in cc
   none_waits root nodes r (in_kids p h) = let e = (and_parts (is "p" root) (is_open []) p).0 in let f = (no_root root r).0 in cc
 
-  story-has : (story : Element) → IsStory story → has_member v story.kids ≡ true → has_element v (nodes_pieces shown revisions in_story story.kids) ≡ true
+  story-has : (story : Element) → IsStory story → has_member v story.kids ≡ true → has_element v (nodes_pieces shown facts in_story story.kids) ≡ true
   story-has story is h = at (found in_story (story.tag ∷ []) story.kids (sym (ap (λ q. not (q || false)) is.loud)) is.fits h)
     where
-      at : Found in_story (story.tag ∷ []) story.kids → has_element v (nodes_pieces shown revisions in_story story.kids) ≡ true
+      at : Found in_story (story.tag ∷ []) story.kids → has_element v (nodes_pieces shown facts in_story story.kids) ≡ true
       at (inl here) = here
       at (inr waits) = absurd (none_waits story.tag story.kids is.root waits)
 
-  section-has : (first : Bool) (name : List ℕ) (root : Element) → IsStory root → has_member v root.kids ≡ true → has_element v (section shown revisions first name root.tag.local root.kids) ≡ true
+  section-has : (first : Bool) (name : List ℕ) (root : Element) → IsStory root → has_member v root.kids ≡ true → has_element v (section shown facts first name root.tag.local root.kids) ≡ true
   section-has first name root is h =
-      let held = nodes_pieces shown revisions in_story root.kids in
+      let held = nodes_pieces shown facts in_story root.kids in
       let end : List HtmlPiece = own "</section>\n" ∷ [] in
-      has-right opens_number v (section_start root.tag.local) (section_name first name ++ (held ++ end))
-      (has-right opens_number v (section_name first name) (held ++ end) (has-left opens_number v held end (story-has root is h)))
+      let heading = section_heading first name root.tag.local in
+      has-right opens_number v (section_start name root.tag.local) (heading ++ (held ++ end))
+      (has-right opens_number v heading (held ++ end) (has-left opens_number v held end (story-has root is h)))
 
-  sections-have : (first : Bool) (parts : List Element) → AreStories (filter_map story_of parts) → list_any (λ story. has_member v story.kids) (filter_map story_of parts) ≡ true →
-      has_element v (sections shown revisions first parts) ≡ true
-  sections-have first [] are h = cc
-  sections-have first (part ∷ parts) are h = at (story_of part) are h (sections-have first parts) (sections-have false parts)
+  -- a story of this sort has a member of the revision
+  abbrev Has : Bool → Element → Bool
+  Has documents root = is_sort documents root && has_member v root.kids
+
+  sections-have : (documents first : Bool) (parts : List Element) → AreStories (filter_map story_of parts) → list_any (Has documents) (filter_map story_of parts) ≡ true →
+      has_element v (sections shown facts documents first parts) ≡ true
+  sections-have documents first [] are h = cc
+  sections-have documents first (part ∷ parts) are h = at (story_of part) are h (λ f. sections-have documents f parts)
     where
-      at : (o : Option Element) → AreStories (cons_option o (filter_map story_of parts)) → list_any (λ story. has_member v story.kids) (cons_option o (filter_map story_of parts)) ≡ true →
-          (AreStories (filter_map story_of parts) → list_any (λ story. has_member v story.kids) (filter_map story_of parts) ≡ true → has_element v (sections shown revisions first parts) ≡ true) →
-          (AreStories (filter_map story_of parts) → list_any (λ story. has_member v story.kids) (filter_map story_of parts) ≡ true → has_element v (sections shown revisions false parts) ≡ true) →
-          has_element v (section_in shown revisions first (name_in part.tag) o ++ sections shown revisions (is_first_after first o) parts) ≡ true
-      at None are h same later = same are h
-      at (Some root) are h same later = by (or_cases (has_member v root.kids) _ h)
+      at : (o : Option Element) → AreStories (cons_option o (filter_map story_of parts)) → list_any (Has documents) (cons_option o (filter_map story_of parts)) ≡ true →
+          ((f : Bool) → AreStories (filter_map story_of parts) → list_any (Has documents) (filter_map story_of parts) ≡ true → has_element v (sections shown facts documents f parts) ≡ true) →
+          has_element v (section_in shown facts documents first (name_in part.tag) o ++ sections shown facts documents (is_first_after documents first o) parts) ≡ true
+      at None are h later = later first are h
+      at (Some root) are h later = by (or_cases (Has documents root) _ h)
         where
-          by : (has_member v root.kids ≡ true) ⊎ (list_any (λ story. has_member v story.kids) (filter_map story_of parts) ≡ true) →
-              has_element v (section shown revisions first (name_in part.tag) root.tag.local root.kids ++ sections shown revisions false parts) ≡ true
-          by (inl here) = has-left opens_number v (section shown revisions first (name_in part.tag) root.tag.local root.kids) (sections shown revisions false parts) (section-has first (name_in part.tag) root are.0 here)
-          by (inr there) = has-right opens_number v (section shown revisions first (name_in part.tag) root.tag.local root.kids) (sections shown revisions false parts) (later are.1 there)
+          by : (Has documents root ≡ true) ⊎ (list_any (Has documents) (filter_map story_of parts) ≡ true) →
+              has_element v (section_in shown facts documents first (name_in part.tag) (Some root) ++ sections shown facts documents (is_first_after documents first (Some root)) parts) ≡ true
+          by (inl here) =
+              let both = and_parts (is_sort documents root) (has_member v root.kids) here in
+              has-left opens_number v (section_in shown facts documents first (name_in part.tag) (Some root)) (sections shown facts documents (is_first_after documents first (Some root)) parts)
+              (rw both.0 (section-has first (name_in part.tag) root are.0 both.1))
+          by (inr there) = has-right opens_number v (section_in shown facts documents first (name_in part.tag) (Some root)) (sections shown facts documents (is_first_after documents first (Some root)) parts) (later (is_first_after documents first (Some root)) are.1 there)
+
+  -- a story is a document, or is none
+  of_a_sort : (roots : List Element) → list_any (λ story. has_member v story.kids) roots ≡ true → (list_any (Has true) roots ≡ true) ⊎ (list_any (Has false) roots ≡ true)
+  of_a_sort [] h = cc
+  of_a_sort (root ∷ roots) h = by (is_sort true root) (has_member v root.kids) h (of_a_sort roots)
+    where
+      by : (document has : Bool) → (has || list_any (λ story. has_member v story.kids) roots) ≡ true →
+          (list_any (λ story. has_member v story.kids) roots ≡ true → (list_any (Has true) roots ≡ true) ⊎ (list_any (Has false) roots ≡ true)) →
+          (((document && has) || list_any (Has true) roots) ≡ true) ⊎ (((not document && has) || list_any (Has false) roots) ≡ true)
+      by true true h later = inl refl
+      by false true h later = inr refl
+      by true false h later = later h
+      by false false h later = later h
+
+  stories-have : (nodes : Nodes) → AreStories (filter_map story_of (parts_of nodes)) → list_any (λ story. has_member v story.kids) (filter_map story_of (parts_of nodes)) ≡ true →
+      has_element v (stories_pieces shown facts nodes) ≡ true
+  stories-have nodes are h = by (of_a_sort (filter_map story_of (parts_of nodes)) h)
+    where
+      by : (list_any (Has true) (filter_map story_of (parts_of nodes)) ≡ true) ⊎ (list_any (Has false) (filter_map story_of (parts_of nodes)) ≡ true) →
+          has_element v (stories_pieces shown facts nodes) ≡ true
+      by (inl documents) =
+          has-left opens_number v (sections shown facts true true (parts_of nodes)) (sections shown facts false false (parts_of nodes)) (sections-have true true (parts_of nodes) are documents)
+      by (inr others) =
+          has-right opens_number v (sections shown facts true true (parts_of nodes)) (sections shown facts false false (parts_of nodes)) (sections-have false false (parts_of nodes) are others)
 
 -- each member of an indexed package has an element with its number
 pub document-has : (shown : List ℕ → List ℕ) (revisions : List Revision) (value : Value) (nodes : Nodes) (v : ℕ) → refusal nodes ≡ None → IsIndexed value nodes →
-    list_any (λ story. has_member v story.kids) (stories nodes) ≡ true → has_element v (sections shown revisions true (parts_of nodes)) ≡ true
+    list_any (λ story. has_member v story.kids) (stories nodes) ≡ true → has_element v (document_pieces shown revisions nodes) ≡ true
 document-has shown revisions value nodes v shape is h =
-    sections-have shown revisions v true (parts_of nodes)
+    stories-have shown (package_facts revisions nodes) v nodes
     (subst AreStories (sym (stories-parts nodes shape)) (indexed_stories value nodes is))
     (ap (list_any (λ story. has_member v story.kids)) (stories-parts nodes shape) ∙ h)

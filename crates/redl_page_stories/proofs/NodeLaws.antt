@@ -12,20 +12,23 @@ use Rattle.redl_opc.specs.Parts.{name_in, story}
 use Rattle.redl_opc.specs.Shape.{parts_of, story_of}
 use Rattle.redl_opc.proofs.WalkLaws.{part-at}
 use Rattle.redl_index.specs.declared.revision.Revision.{Revision}
+use Rattle.redl_hidden.specs.Styles.{HiddenStyles, package_hidden}
+use Rattle.redl_places.specs.Places.{Signs, package_signs}
+use Rattle.redl_page_stories.specs.Facts.{Facts, package_facts}
 use Rattle.redl_page_stories.specs.declared.marks.Depth.{Depth}
 use Rattle.redl_page_stories.specs.declared.marks.Depth.TheVariants.{Kids, Properties, RunProperties}
 use Rattle.redl_page_stories.specs.declared.place.PageSummary.{PageSummary}
 use Rattle.redl_page_stories.specs.declared.values.Property.{Property}
 use Rattle.redl_html.specs.Escaping.{escaped}
-use Rattle.redl_html.specs.Pieces.{HtmlPiece, own, pieces_text}
+use Rattle.redl_html.specs.Pieces.{HtmlPiece, own, piece_text, pieces_text}
 use Rattle.redl_html.proofs.PieceLaws.{pieces_text-append}
 use Rattle.redl_page_stories.specs.Shapes.{before_closing, closing, has_property, holds_blocks, is_paragraph, shape_of, switched_on}
-use Rattle.redl_page_stories.specs.Values.{value_in, value_of}
+use Rattle.redl_page_stories.specs.Values.{embed_in, value_in, value_of}
 use Rattle.redl_page_stories.specs.declared.shape.Shape.{Shape}
 use Rattle.redl_page_stories.specs.Signs.{author_at, sign, sign_text, edge}
-use Rattle.redl_page_stories.specs.Document.{in_story, section_name, section_start, section, shape_end, start_as, end_as, element_pieces, marks_in, nodes_pieces, section_in, sections, section_at, name_at, is_first_after}
-use Rattle.redl_page_stories.specs.Inside.Items.{item_has_property, item_holds, item_marks, item_pieces, item_switches, item_value, item_value_in}
-use Rattle.redl_page_stories.proofs.PastLaws.{has_property_past, holds_past, marks_past, pieces-⊕, switched_on-⊕, value_in-⊕, value_of_past}
+use Rattle.redl_page_stories.specs.Document.{heading_piece, in_story, is_sort, section_heading, section_start, section, shape_end, start_as, end_as, element_pieces, marks_in, nodes_pieces, section_in, sections, section_at, name_at, is_first_after}
+use Rattle.redl_page_stories.specs.Inside.Items.{item_embed, item_has_property, item_holds, item_marks, item_pieces, item_switches, item_value, item_value_in}
+use Rattle.redl_page_stories.proofs.PastLaws.{embed_past, has_property_past, holds_past, marks_past, pieces-⊕, switched_on-⊕, value_in-⊕, value_of_past}
 
 -- ---- signs
 
@@ -59,28 +62,28 @@ marks_text revisions depth nodes x rest e =
     ap (λ n. pieces_text (marks_in revisions depth n)) e ∙ ap pieces_text (marks_in-front revisions depth x rest)
     ∙ pieces_text-append (item_marks revisions depth x) (marks_in revisions depth rest)
 
-nodes_pieces-front : (shown : List ℕ → List ℕ) (revisions : List Revision) (place : PageSummary) (x : Item) (rest : Nodes) →
-    nodes_pieces shown revisions place (in_front x rest) ≡ item_pieces shown revisions place x ++ nodes_pieces shown revisions place rest
-nodes_pieces-front shown revisions place (bytes_item b) rest = refl
-nodes_pieces-front shown revisions place (element_item tag kids) rest = refl
-nodes_pieces-front shown revisions place (idle_item t) rest = pieces-⊕ shown revisions place (idle_nodes t) rest
+nodes_pieces-front : (shown : List ℕ → List ℕ) (facts : Facts) (place : PageSummary) (x : Item) (rest : Nodes) →
+    nodes_pieces shown facts place (in_front x rest) ≡ item_pieces shown facts place x ++ nodes_pieces shown facts place rest
+nodes_pieces-front shown facts place (bytes_item b) rest = refl
+nodes_pieces-front shown facts place (element_item tag kids) rest = refl
+nodes_pieces-front shown facts place (idle_item t) rest = pieces-⊕ shown facts place (idle_nodes t) rest
 
-pub nodes_text : (shown : List ℕ → List ℕ) (revisions : List Revision) (place : PageSummary) (nodes : Nodes) (x : Item) (rest : Nodes) → nodes ≡ in_front x rest →
-    pieces_text (nodes_pieces shown revisions place nodes) ≡ pieces_text (item_pieces shown revisions place x) ++ pieces_text (nodes_pieces shown revisions place rest)
-nodes_text shown revisions place nodes x rest e =
-    ap (λ n. pieces_text (nodes_pieces shown revisions place n)) e ∙ ap pieces_text (nodes_pieces-front shown revisions place x rest)
-    ∙ pieces_text-append (item_pieces shown revisions place x) (nodes_pieces shown revisions place rest)
+pub nodes_text : (shown : List ℕ → List ℕ) (facts : Facts) (place : PageSummary) (nodes : Nodes) (x : Item) (rest : Nodes) → nodes ≡ in_front x rest →
+    pieces_text (nodes_pieces shown facts place nodes) ≡ pieces_text (item_pieces shown facts place x) ++ pieces_text (nodes_pieces shown facts place rest)
+nodes_text shown facts place nodes x rest e =
+    ap (λ n. pieces_text (nodes_pieces shown facts place n)) e ∙ ap pieces_text (nodes_pieces-front shown facts place x rest)
+    ∙ pieces_text-append (item_pieces shown facts place x) (nodes_pieces shown facts place rest)
 
 -- an element with this shape
-pub element_text-by : (revisions : List Revision) (place : PageSummary) (tag : Tag) (kids : Nodes) (inner : List HtmlPiece) (shape : Shape) → shape ≡ shape_of place.loud tag kids →
-    pieces_text (element_pieces revisions place tag kids inner)
-    ≡ pieces_text (start_as revisions shape tag kids tag.kind) ++ (pieces_text inner ++ pieces_text (end_as revisions shape kids tag.kind))
-element_text-by revisions place tag kids inner shape e =
-    let start = start_as revisions (shape_of place.loud tag kids) tag kids tag.kind in
-    let end = end_as revisions (shape_of place.loud tag kids) kids tag.kind in
+pub element_text-by : (facts : Facts) (place : PageSummary) (tag : Tag) (kids : Nodes) (inner : List HtmlPiece) (shape : Shape) → shape ≡ shape_of facts.hidden place tag kids →
+    pieces_text (element_pieces facts place tag kids inner)
+    ≡ pieces_text (start_as facts shape tag kids tag.kind) ++ (pieces_text inner ++ pieces_text (end_as facts.revisions shape kids tag.kind))
+element_text-by facts place tag kids inner shape e =
+    let start = start_as facts (shape_of facts.hidden place tag kids) tag kids tag.kind in
+    let end = end_as facts.revisions (shape_of facts.hidden place tag kids) kids tag.kind in
     pieces_text-append start (inner ++ end)
     ∙ ap (λ l. pieces_text start ++ l) (pieces_text-append inner end)
-    ∙ ap (λ s. pieces_text (start_as revisions s tag kids tag.kind) ++ (pieces_text inner ++ pieces_text (end_as revisions s kids tag.kind))) (sym e)
+    ∙ ap (λ s. pieces_text (start_as facts s tag kids tag.kind) ++ (pieces_text inner ++ pieces_text (end_as facts.revisions s kids tag.kind))) (sym e)
 
 holds_blocks-front : (x : Item) (rest : Nodes) → holds_blocks (in_front x rest) ≡ (item_holds x || holds_blocks rest)
 holds_blocks-front (bytes_item b) rest = refl
@@ -143,34 +146,60 @@ shape_end-text revisions shape kids =
     ∙ ap (λ l. pieces_text marks ++ l)
     (pieces_text-append (before_closing shape kids) end ∙ ap (λ l. pieces_text (before_closing shape kids) ++ l) (append-nil (codes (closing shape))))
 
+-- ---- pictures
+
+embed-front : (x : Item) (rest : Nodes) → embed_in (in_front x rest) ≡ option_or (item_embed x) (embed_in rest)
+embed-front (bytes_item b) rest = refl
+embed-front (element_item tag kids) rest = refl
+embed-front (idle_item t) rest = embed_past (idle_nodes t) rest (nodes_are_idle t)
+
+pub embed-later : (nodes : Nodes) (x : Item) (rest : Nodes) → nodes ≡ in_front x rest → item_embed x ≡ None → embed_in rest ≡ embed_in nodes
+embed-later nodes x rest e h = sym (ap embed_in e ∙ embed-front x rest ∙ ap (λ o. option_or o (embed_in rest)) h)
+
+pub embed-here : (nodes : Nodes) (x : Item) (rest : Nodes) (id : List ℕ) → nodes ≡ in_front x rest → item_embed x ≡ Some id → embed_in nodes ≡ Some id
+embed-here nodes x rest id e h = ap embed_in e ∙ embed-front x rest ∙ ap (λ o. option_or o (embed_in rest)) h
+
 -- ---- parts
 
-pub name-named : (first : Bool) (name : List ℕ) → first ≡ false → pieces_text (section_name first name) ≡ codes "<h2>" ++ (escaped name ++ codes "</h2>\n")
-name-named first name e = rw e refl
+pub heading-named : (first : Bool) (name sort : List ℕ) → first ≡ false → pieces_text (section_heading first name sort) ≡ codes "<h2>" ++ (piece_text (heading_piece name sort) ++ codes "</h2>\n")
+heading-named first name sort e = rw e refl
 
-pub name-none : (first : Bool) (name : List ℕ) → first ≡ true → pieces_text (section_name first name) ≡ []
-name-none first name e = rw e refl
+pub heading-none : (first : Bool) (name sort : List ℕ) → first ≡ true → pieces_text (section_heading first name sort) ≡ []
+heading-none first name sort e = rw e refl
 
-pub section-text : (shown : List ℕ → List ℕ) (revisions : List Revision) (first : Bool) (name sort : List ℕ) (kids : Nodes) → pieces_text (section shown revisions first name sort kids)
-    ≡ pieces_text (section_start sort) ++ (pieces_text (section_name first name) ++ (pieces_text (nodes_pieces shown revisions in_story kids) ++ codes "</section>\n"))
-section-text shown revisions first name sort kids =
-    let held = nodes_pieces shown revisions in_story kids in
+pub section-text : (shown : List ℕ → List ℕ) (facts : Facts) (first : Bool) (name sort : List ℕ) (kids : Nodes) → pieces_text (section shown facts first name sort kids)
+    ≡ pieces_text (section_start name sort) ++ (pieces_text (section_heading first name sort) ++ (pieces_text (nodes_pieces shown facts in_story kids) ++ codes "</section>\n"))
+section-text shown facts first name sort kids =
+    let held = nodes_pieces shown facts in_story kids in
     let end : List HtmlPiece = own "</section>\n" ∷ [] in
-    pieces_text-append (section_start sort) (section_name first name ++ (held ++ end))
-    ∙ ap (λ l. pieces_text (section_start sort) ++ l) (pieces_text-append (section_name first name) (held ++ end)
-    ∙ ap (λ l. pieces_text (section_name first name) ++ l) (pieces_text-append held end))
+    pieces_text-append (section_start name sort) (section_heading first name sort ++ (held ++ end))
+    ∙ ap (λ l. pieces_text (section_start name sort) ++ l) (pieces_text-append (section_heading first name sort) (held ++ end)
+    ∙ ap (λ l. pieces_text (section_heading first name sort) ++ l) (pieces_text-append held end))
 
-pub sections-step : (shown : List ℕ → List ℕ) (revisions : List Revision) (first : Bool) (nodes : Nodes) (number : ℕ) → number < length (parts_of nodes) →
-    pieces_text (sections shown revisions first (drop number (parts_of nodes)))
-    ≡ pieces_text (section_at shown revisions nodes first number)
-    ++ pieces_text (sections shown revisions (is_first_after first (story nodes number)) (drop (number + 1) (parts_of nodes)))
-sections-step shown revisions first nodes number within =
+-- a story of the sort that is asked for
+pub section_in-sort : (shown : List ℕ → List ℕ) (facts : Facts) (documents first : Bool) (name : List ℕ) (root : Element) (is_one : Bool) → is_one ≡ is_sort documents root → is_one ≡ true →
+    pieces_text (section_in shown facts documents first name (Some root)) ≡ pieces_text (section shown facts first name root.tag.local root.kids)
+section_in-sort shown facts documents first name root true e h =
+    ap (λ (b : Bool). pieces_text (if b then section shown facts first name root.tag.local root.kids else [])) (sym e)
+section_in-sort shown facts documents first name root false e h = cc
+
+pub sections-step : (shown : List ℕ → List ℕ) (facts : Facts) (documents first : Bool) (nodes : Nodes) (number : ℕ) → number < length (parts_of nodes) →
+    pieces_text (sections shown facts documents first (drop number (parts_of nodes)))
+    ≡ pieces_text (section_at shown facts nodes documents first number)
+    ++ pieces_text (sections shown facts documents (is_first_after documents first (story nodes number)) (drop (number + 1) (parts_of nodes)))
+sections-step shown facts documents first nodes number within =
     let found = part-at nodes number within in
     let later = drop (number + 1) (parts_of nodes) in
-    ap (λ parts. pieces_text (sections shown revisions first parts)) found.1.front
-    ∙ pieces_text-append (section_in shown revisions first (name_in found.0.tag) (story_of found.0)) (sections shown revisions (is_first_after first (story_of found.0)) later)
-    ∙ ap (λ name. pieces_text (section_in shown revisions first name (story_of found.0)) ++ pieces_text (sections shown revisions (is_first_after first (story_of found.0)) later)) (sym (name found.0 found.1.at))
-    ∙ ap (λ root. pieces_text (section_in shown revisions first (name_at nodes number) root) ++ pieces_text (sections shown revisions (is_first_after first root) later)) (sym found.1.root)
+    ap (λ parts. pieces_text (sections shown facts documents first parts)) found.1.front
+    ∙ pieces_text-append (section_in shown facts documents first (name_in found.0.tag) (story_of found.0)) (sections shown facts documents (is_first_after documents first (story_of found.0)) later)
+    ∙ ap (λ name. pieces_text (section_in shown facts documents first name (story_of found.0)) ++ pieces_text (sections shown facts documents (is_first_after documents first (story_of found.0)) later)) (sym (name found.0 found.1.at))
+    ∙ ap (λ root. pieces_text (section_in shown facts documents first (name_at nodes number) root) ++ pieces_text (sections shown facts documents (is_first_after documents first root) later)) (sym found.1.root)
   where
     name : (part : Element) → slice_get (parts_of nodes) number ≡ Some part → name_at nodes number ≡ name_in part.tag
     name part e = ap (λ o. unwrap_or (option_map (λ p. name_in p.tag) o) []) e
+
+-- the facts in code are those of the package
+pub facts-same : (facts : Facts) (nodes : Nodes) → facts.signs ≡ package_signs nodes → facts.hidden ≡ package_hidden nodes → facts ≡ package_facts facts.revisions nodes
+facts-same facts nodes signs hidden =
+    ap (λ (s : Signs). record { revisions = facts.revisions; signs = s; hidden = facts.hidden }) signs
+    ∙ ap (λ (h : HiddenStyles). record { revisions = facts.revisions; signs = package_signs nodes; hidden = h }) hidden

@@ -12,30 +12,32 @@ use Rattle.redl_tree.specs.declared.kinds.Kind.{Kind}
 use Rattle.redl_tree.specs.declared.kinds.Space.{Space}
 use Rattle.redl_tree.specs.declared.kinds.Space.TheVariants.{W, M, Pkg, Other}
 use Rattle.redl_tree.proofs.Idle.Tags.{Idle, idle_parts, has-not}
+use Rattle.redl_stamp.specs.Attribute.{written_value}
 use Rattle.redl_index.specs.declared.revision.Revision.{Revision}
 use Rattle.redl_page_stories.specs.declared.marks.Depth.{Depth}
 use Rattle.redl_page_stories.specs.declared.marks.Depth.TheVariants.{Kids, Properties, RunProperties}
 use Rattle.redl_page_stories.specs.declared.place.PageSummary.{PageSummary}
 use Rattle.redl_page_stories.specs.declared.values.Property.{Property}
 use Rattle.redl_page_stories.specs.declared.values.Property.TheVariants.{Style, Direction, Span, Merge, OperatorSign, AccentSign, FirstDelimiter, LastDelimiter, Description}
+use Rattle.redl_page_stories.specs.Facts.{Facts}
 use Rattle.redl_page_stories.specs.Document.{bytes_pieces, element_pieces, inside, marks_in, nodes_pieces}
 use Rattle.redl_page_stories.specs.Shapes.{has_property, holds_blocks, is_block, is_other_form, switched_on, switches}
-use Rattle.redl_page_stories.specs.Values.{given_by, holds, is_other, value_in, value_of}
+use Rattle.redl_page_stories.specs.Values.{embed_by, embed_in, given_by, holds, is_other, value_in, value_of}
 use Rattle.redl_page_stories.specs.Signs.{member}
 
 -- ---- nodes one after the other
 
-pub pieces-⊕ : (shown : List ℕ → List ℕ) (revisions : List Revision) (place : PageSummary) (x y : Nodes) →
-    nodes_pieces shown revisions place (x ⊕ y) ≡ nodes_pieces shown revisions place x ++ nodes_pieces shown revisions place y
-pieces-⊕ shown revisions place no_nodes y = refl
-pieces-⊕ shown revisions place (bytes b rest) y =
+pub pieces-⊕ : (shown : List ℕ → List ℕ) (facts : Facts) (place : PageSummary) (x y : Nodes) →
+    nodes_pieces shown facts place (x ⊕ y) ≡ nodes_pieces shown facts place x ++ nodes_pieces shown facts place y
+pieces-⊕ shown facts place no_nodes y = refl
+pieces-⊕ shown facts place (bytes b rest) y =
     let own = bytes_pieces shown place b in
-    ap (λ l. own ++ l) (pieces-⊕ shown revisions place rest y)
-    ∙ sym (append_assoc own (nodes_pieces shown revisions place rest) (nodes_pieces shown revisions place y))
-pieces-⊕ shown revisions place (element tag kids rest) y =
-    let own = element_pieces revisions place tag kids (nodes_pieces shown revisions (inside tag place) kids) in
-    ap (λ l. own ++ l) (pieces-⊕ shown revisions place rest y)
-    ∙ sym (append_assoc own (nodes_pieces shown revisions place rest) (nodes_pieces shown revisions place y))
+    ap (λ l. own ++ l) (pieces-⊕ shown facts place rest y)
+    ∙ sym (append_assoc own (nodes_pieces shown facts place rest) (nodes_pieces shown facts place y))
+pieces-⊕ shown facts place (element tag kids rest) y =
+    let own = element_pieces facts place tag kids (nodes_pieces shown facts (inside facts.hidden tag kids place) kids) in
+    ap (λ l. own ++ l) (pieces-⊕ shown facts place rest y)
+    ∙ sym (append_assoc own (nodes_pieces shown facts place rest) (nodes_pieces shown facts place y))
 
 pub switched_on-⊕ : (name : List ℕ) (x y : Nodes) → switched_on name (x ⊕ y) ≡ (switched_on name x || switched_on name y)
 switched_on-⊕ name no_nodes y = refl
@@ -105,6 +107,31 @@ idle_none property in_run (element tag kids rest) h =
     let p = idle_parts in_run tag kids rest h in
     ap (λ b. option_or (if b then value_in property kids else None) (value_of property rest)) (holds_none property in_run tag p.own)
     ∙ idle_none property in_run rest p.later
+
+embed_none-by : (in_run : Bool) (tag : Tag) → Idle in_run tag → embed_by tag ≡ None
+embed_none-by in_run tag i =
+    ap (λ o. if o && bytes_eq tag.local (codes "blip") then written_value tag.tail (codes "embed")
+    else if o && bytes_eq tag.local (codes "imagedata") then written_value tag.tail (codes "id")
+    else None) (no_other tag.space i.space)
+
+-- and lead to no picture
+pub embed_none : (in_run : Bool) (x : Nodes) → is_idle_in in_run x ≡ true → embed_in x ≡ None
+embed_none in_run no_nodes h = refl
+embed_none in_run (bytes b rest) h = embed_none in_run rest h
+embed_none in_run (element tag kids rest) h =
+    let p = idle_parts in_run tag kids rest h in
+    ap (λ (o : Option (List ℕ)). option_or (option_or o (embed_in kids)) (embed_in rest)) (embed_none-by in_run tag p.own)
+    ∙ ap (λ (o : Option (List ℕ)). option_or o (embed_in rest)) (embed_none (is "r" tag) kids p.below)
+    ∙ embed_none in_run rest p.later
+
+pub embed_past : (x y : Nodes) → is_idle_in false x ≡ true → embed_in (x ⊕ y) ≡ embed_in y
+embed_past no_nodes y h = refl
+embed_past (bytes b rest) y h = embed_past rest y h
+embed_past (element tag kids rest) y h =
+    let p = idle_parts false tag kids rest h in
+    ap (λ (o : Option (List ℕ)). option_or (option_or o (embed_in kids)) (embed_in (rest ⊕ y))) (embed_none-by false tag p.own)
+    ∙ ap (λ (o : Option (List ℕ)). option_or o (embed_in (rest ⊕ y))) (embed_none (is "r" tag) kids p.below)
+    ∙ embed_past rest y p.later
 
 pub marks_past : (revisions : List Revision) (depth : Depth) (x y : Nodes) → is_idle_in false x ≡ true → marks_in revisions depth (x ⊕ y) ≡ marks_in revisions depth y
 marks_past revisions depth no_nodes y h = refl

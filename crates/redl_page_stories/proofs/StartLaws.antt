@@ -5,7 +5,7 @@ use Rattle.redl_reading.specs.Steps.{Gives}
 use Rattle.redl_tree.specs.Model.Nodes.{Nodes}
 use Rattle.redl_html.specs.Pieces.{own, piece_text, pieces_text}
 use Rattle.redl_html.proofs.PieceLaws.{pieces_text-append}
-use Rattle.redl_page_stories.specs.Starts.{cell_pieces, direction_pieces, merge_pieces, paragraph_pieces, sign_piece, sign_text, span_pieces, style_pieces}
+use Rattle.redl_page_stories.specs.Starts.{cell_pieces, description_pieces, direction_pieces, embed_pieces, empty_remark, merge_pieces, paragraph_pieces, picture_pieces, remark_pieces, sign_piece, sign_text, span_pieces, style_pieces}
 use Rattle.redl_page_stories.specs.Values.{value_of}
 use Rattle.redl_page_stories.specs.declared.values.Property.TheVariants.{Style, Direction, Span, Merge}
 
@@ -28,3 +28,9 @@ cell-text kids =
 pub sign-written : (usual : String) (sign : Option (List ℕ)) → piece_text (sign_piece usual sign) ≡ sign_text (codes usual) sign
 sign-written usual None = refl
 sign-written usual (Some sign) = refl
+
+pub picture-text : (embed description : Option (List ℕ)) → pieces_text (picture_pieces embed description) ≡ pieces_text (embed_pieces embed) ++ pieces_text (description_pieces description)
+picture-text embed description = pieces_text-append (embed_pieces embed) (description_pieces description)
+
+pub remark-text : (id : Option (List ℕ)) → pieces_text (empty_remark id) ≡ pieces_text (remark_pieces id) ++ codes "</span>"
+remark-text id = pieces_text-append (remark_pieces id) (own "</span>" ∷ [])

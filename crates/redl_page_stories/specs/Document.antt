@@ -1,5 +1,6 @@
--- The document of the page: its stories in the order of the parts, with an element for each member of a revision.
-use Rattle.std.specs.Prelude.{ℕ, List, [], ◌∷◌, ◌++◌, Bool, true, false, ◌&&◌, ◌||◌, not, Option, Some, None, unwrap_or, if◌then◌else◌}
+-- The document of the page: its stories, with an element for each member of a revision. Documents come first, and then the others, both
+-- in the order of the parts (our own rule).
+use Rattle.std.specs.Prelude.{ℕ, List, [], ◌∷◌, ◌++◌, Bool, true, false, ◌&&◌, ◌||◌, not, Option, Some, None, bytes_eq, codes, unwrap_or, if◌then◌else◌}
 use Rattle.redl_tree.specs.Model.Nodes.{Tag, Nodes, no_nodes, bytes, element}
 use Rattle.redl_tree.specs.Roles.Names.{is, is_math}
 use Rattle.redl_tree.specs.Roles.Places.{is_quiet}
@@ -8,8 +9,12 @@ use Rattle.redl_tree.specs.declared.kinds.Kind.{Kind}
 use Rattle.redl_tree.specs.declared.kinds.Kind.TheVariants.{Plain, Content, Mark, Row, Cell, Change, Marker}
 use Rattle.redl_opc.specs.Elements.{Element}
 use Rattle.redl_opc.specs.Parts.{name_in, part_name, story}
-use Rattle.redl_opc.specs.Shape.{story_of}
+use Rattle.redl_opc.specs.Shape.{parts_of, story_of}
 use Rattle.redl_index.specs.declared.revision.Revision.{Revision}
+use Rattle.redl_hidden.specs.Runs.{paragraph_hides}
+use Rattle.redl_hidden.specs.Styles.{HiddenStyles}
+use Rattle.redl_places.specs.Places.{Signs}
+use Rattle.redl_page_stories.specs.Facts.{Facts, package_facts}
 use Rattle.redl_page_stories.specs.declared.place.PageSummary.{PageSummary}
 use Rattle.redl_page_stories.specs.declared.marks.Depth.{Depth}
 use Rattle.redl_page_stories.specs.declared.marks.Depth.TheVariants.{Kids, Properties, RunProperties}
@@ -34,8 +39,8 @@ marks_in revisions RunProperties (element tag kids rest) =
 
 -- ---- one element
 
-abbrev pub shape_start : Shape → Tag → Nodes → List HtmlPiece
-shape_start shape tag kids = own (opening shape) ∷ behind_opening shape tag kids
+abbrev pub shape_start : Signs → Shape → Tag → Nodes → List HtmlPiece
+shape_start signs shape tag kids = own (opening shape) ∷ behind_opening signs shape tag kids
 
 -- a paragraph shows the members of its mark at its end
 abbrev pub shape_end : List Revision → Shape → Nodes → List HtmlPiece
@@ -43,14 +48,14 @@ shape_end revisions shape kids =
     (if is_paragraph shape then marks_in revisions Kids kids else []) ++ (before_closing shape kids ++ own (closing shape) ∷ [])
 
 -- what comes before the kids of an element with this shape
-abbrev pub start_as : List Revision → Shape → Tag → Nodes → Kind → List HtmlPiece
-start_as revisions shape tag kids Plain = shape_start shape tag kids
-start_as revisions shape tag kids (Content trace) = member revisions (Content trace) tag.rev
-start_as revisions shape tag kids (Mark trace) = []
-start_as revisions shape tag kids (Row trace) = member revisions (Row trace) tag.rev
-start_as revisions shape tag kids (Cell trace) = member revisions (Cell trace) tag.rev
-start_as revisions shape tag kids (Change prop) = member revisions (Change prop) tag.rev
-start_as revisions shape tag kids Marker = edge revisions tag
+abbrev pub start_as : Facts → Shape → Tag → Nodes → Kind → List HtmlPiece
+start_as facts shape tag kids Plain = shape_start facts.signs shape tag kids
+start_as facts shape tag kids (Content trace) = member facts.revisions (Content trace) tag.rev
+start_as facts shape tag kids (Mark trace) = []
+start_as facts shape tag kids (Row trace) = member facts.revisions (Row trace) tag.rev
+start_as facts shape tag kids (Cell trace) = member facts.revisions (Cell trace) tag.rev
+start_as facts shape tag kids (Change prop) = member facts.revisions (Change prop) tag.rev
+start_as facts shape tag kids Marker = edge facts.revisions tag
 
 -- what comes after them
 abbrev pub end_as : List Revision → Shape → Nodes → Kind → List HtmlPiece
@@ -60,68 +65,94 @@ end_as revisions shape kids _ = []
 
 -- ---- nodes
 
--- the place of the kids of an element: whether no ancestor holds properties, and whether the element is a text
-abbrev pub inside : Tag → PageSummary → PageSummary
-inside tag place = record {
+-- the place of the kids of an element: whether no ancestor holds properties, whether the element is a text, and whether the nearest
+-- paragraph hides its runs
+abbrev pub inside : HiddenStyles → Tag → Nodes → PageSummary → PageSummary
+inside hidden tag kids place = record {
   loud = place.loud && not (is_quiet tag);
   shows = place.loud && (is "t" tag || is "delText" tag || is_math "t" tag);
+  hides = if is "p" tag then paragraph_hides hidden kids else place.hides;
 }
 
 abbrev pub bytes_pieces : (List ℕ → List ℕ) → PageSummary → List ℕ → List HtmlPiece
 bytes_pieces shown place b = if place.shows then outside (shown b) ∷ [] else []
 
 -- an element whose kids give these pieces
-abbrev pub element_pieces : List Revision → PageSummary → Tag → Nodes → List HtmlPiece → List HtmlPiece
-element_pieces revisions place tag kids inner =
-    start_as revisions (shape_of place.loud tag kids) tag kids tag.kind ++ (inner ++ end_as revisions (shape_of place.loud tag kids) kids tag.kind)
+abbrev pub element_pieces : Facts → PageSummary → Tag → Nodes → List HtmlPiece → List HtmlPiece
+element_pieces facts place tag kids inner =
+    start_as facts (shape_of facts.hidden place tag kids) tag kids tag.kind
+    ++ (inner ++ end_as facts.revisions (shape_of facts.hidden place tag kids) kids tag.kind)
 
 -- nodes that have this place; `shown` gives what the bytes of a node show
-abbrev pub nodes_pieces : (List ℕ → List ℕ) → List Revision → PageSummary → Nodes → List HtmlPiece
-nodes_pieces shown revisions place no_nodes = []
-nodes_pieces shown revisions place (bytes b rest) = bytes_pieces shown place b ++ nodes_pieces shown revisions place rest
-nodes_pieces shown revisions place (element tag kids rest) =
-    element_pieces revisions place tag kids (nodes_pieces shown revisions (inside tag place) kids) ++ nodes_pieces shown revisions place rest
+abbrev pub nodes_pieces : (List ℕ → List ℕ) → Facts → PageSummary → Nodes → List HtmlPiece
+nodes_pieces shown facts place no_nodes = []
+nodes_pieces shown facts place (bytes b rest) = bytes_pieces shown place b ++ nodes_pieces shown facts place rest
+nodes_pieces shown facts place (element tag kids rest) =
+    element_pieces facts place tag kids (nodes_pieces shown facts (inside facts.hidden tag kids place) kids) ++ nodes_pieces shown facts place rest
 
 -- ---- stories
 
 -- the place of the kids of a story's root
 abbrev pub in_story : PageSummary
-in_story = record { loud = true; shows = false }
+in_story = record { loud = true; shows = false; hides = false }
 
--- a story says of which sort it is: by the local name of its root
-abbrev pub section_start : List ℕ → List HtmlPiece
-section_start sort = own "<section data-story=\"" ∷ outside sort ∷ own "\">\n" ∷ []
+-- a story says of which sort it is, by the local name of its root, and which part it is
+abbrev pub section_start : List ℕ → List ℕ → List HtmlPiece
+section_start name sort = own "<section data-story=\"" ∷ outside sort ∷ own "\" data-part=\"" ∷ outside name ∷ own "\">\n" ∷ []
 
--- each story but the first has the name of its part as its heading
-abbrev pub section_name : Bool → List ℕ → List HtmlPiece
-section_name true name = []
-section_name false name = own "<h2>" ∷ outside name ∷ own "</h2>\n" ∷ []
+-- a story in a word, or else the name of its part
+abbrev pub heading_piece : List ℕ → List ℕ → HtmlPiece
+heading_piece name sort =
+    if bytes_eq sort (codes "hdr") then own "Header"
+    else if bytes_eq sort (codes "ftr") then own "Footer"
+    else if bytes_eq sort (codes "footnotes") then own "Footnotes"
+    else if bytes_eq sort (codes "endnotes") then own "Endnotes"
+    else if bytes_eq sort (codes "comments") then own "Comments"
+    else outside name
+
+-- each story but the first document has it as its heading
+abbrev pub section_heading : Bool → List ℕ → List ℕ → List HtmlPiece
+section_heading true name sort = []
+section_heading false name sort = own "<h2>" ∷ heading_piece name sort ∷ own "</h2>\n" ∷ []
 
 -- a story with these kids of its root
-abbrev pub section : (List ℕ → List ℕ) → List Revision → Bool → List ℕ → List ℕ → Nodes → List HtmlPiece
-section shown revisions first name sort kids =
-    section_start sort ++ (section_name first name ++ (nodes_pieces shown revisions in_story kids ++ (own "</section>\n" ∷ [])))
+abbrev pub section : (List ℕ → List ℕ) → Facts → Bool → List ℕ → List ℕ → Nodes → List HtmlPiece
+section shown facts first name sort kids =
+    section_start name sort ++ (section_heading first name sort ++ (nodes_pieces shown facts in_story kids ++ (own "</section>\n" ∷ [])))
 
--- the story of a part with this name, if it has one
-abbrev pub section_in : (List ℕ → List ℕ) → List Revision → Bool → List ℕ → Option Element → List HtmlPiece
-section_in shown revisions first name None = []
-section_in shown revisions first name (Some root) = section shown revisions first name root.tag.local root.kids
+-- a story is a document, or is none
+abbrev pub is_sort : Bool → Element → Bool
+is_sort documents root = if documents then bytes_eq root.tag.local (codes "document") else not (bytes_eq root.tag.local (codes "document"))
+
+-- the story of a part with this name, if it has one of this sort
+abbrev pub section_in : (List ℕ → List ℕ) → Facts → Bool → Bool → List ℕ → Option Element → List HtmlPiece
+section_in shown facts documents first name None = []
+section_in shown facts documents first name (Some root) = if is_sort documents root then section shown facts first name root.tag.local root.kids else []
 
 -- whether no story comes before what follows such a part
-abbrev pub is_first_after : Bool → Option Element → Bool
-is_first_after first None = first
-is_first_after first (Some root) = false
+abbrev pub is_first_after : Bool → Bool → Option Element → Bool
+is_first_after documents first None = first
+is_first_after documents first (Some root) = if is_sort documents root then false else first
 
--- the stories of these parts, where no story comes before them or one does
-abbrev pub sections : (List ℕ → List ℕ) → List Revision → Bool → List Element → List HtmlPiece
-sections shown revisions first [] = []
-sections shown revisions first (part ∷ later) =
-    section_in shown revisions first (name_in part.tag) (story_of part) ++ sections shown revisions (is_first_after first (story_of part)) later
+-- the stories of these parts that are documents, or those that are none, where no story comes before them or one does
+abbrev pub sections : (List ℕ → List ℕ) → Facts → Bool → Bool → List Element → List HtmlPiece
+sections shown facts documents first [] = []
+sections shown facts documents first (part ∷ later) =
+    section_in shown facts documents first (name_in part.tag) (story_of part)
+    ++ sections shown facts documents (is_first_after documents first (story_of part)) later
+
+-- all stories of a package
+abbrev pub stories_pieces : (List ℕ → List ℕ) → Facts → Nodes → List HtmlPiece
+stories_pieces shown facts nodes = sections shown facts true true (parts_of nodes) ++ sections shown facts false false (parts_of nodes)
+
+-- with the facts that the package itself has
+abbrev pub document_pieces : (List ℕ → List ℕ) → List Revision → Nodes → List HtmlPiece
+document_pieces shown revisions nodes = stories_pieces shown (package_facts revisions nodes) nodes
 
 -- the name of the part with this number
 abbrev pub name_at : Nodes → ℕ → List ℕ
 name_at nodes number = unwrap_or (part_name nodes number) []
 
--- its story, if it has one
-abbrev pub section_at : (List ℕ → List ℕ) → List Revision → Nodes → Bool → ℕ → List HtmlPiece
-section_at shown revisions nodes first number = section_in shown revisions first (name_at nodes number) (story nodes number)
+-- its story, if it has one of this sort
+abbrev pub section_at : (List ℕ → List ℕ) → Facts → Nodes → Bool → Bool → ℕ → List HtmlPiece
+section_at shown facts nodes documents first number = section_in shown facts documents first (name_at nodes number) (story nodes number)

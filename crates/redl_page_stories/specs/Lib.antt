@@ -1,6 +1,9 @@
+pub mod Facts
 pub mod Signs
 pub mod Values
+pub mod Notes
 pub mod Starts
 pub mod Shapes
 pub mod Document
+pub mod Views
 pub mod Inside

@@ -1,4 +1,4 @@
--- What stands behind the opening of a paragraph, a cell, a picture, a break, a symbol, a note and a structure of an equation.
+-- What stands behind the opening of a paragraph, a cell, a picture, a break, a symbol, a comment and a structure of an equation.
 use Prim.Native.String.{String}
 use Rattle.std.specs.Prelude.{ℕ, ◌==◌, Bool, ◌&&◌, ◌||◌, List, [], ◌∷◌, ◌++◌, Option, Some, None, bytes_eq, codes, encode_utf8, length, nat_le, nat_lt, if◌then◌else◌}
 use Rattle.redl_tree.specs.Model.Nodes.{Nodes}
@@ -9,7 +9,7 @@ use Rattle.redl_grammar.specs.References.{reference_at}
 use Rattle.redl_page_stories.specs.declared.values.Property.TheVariants.{Style, Direction, Span, Merge}
 use Rattle.redl_page_stories.specs.Values.{is_off, value_of}
 
--- ---- values of properties, and ids
+-- ---- values of properties
 
 -- a paragraph from right to left
 abbrev pub direction_pieces : Option (List ℕ) → List HtmlPiece
@@ -31,10 +31,16 @@ abbrev pub style_pieces : Option (List ℕ) → List HtmlPiece
 style_pieces None = own ">" ∷ []
 style_pieces (Some style) = own " data-style=\"" ∷ outside (shown style) ∷ own "\">" ∷ []
 
--- the sign of a note with this id, and its end
-abbrev pub note_pieces : Option (List ℕ) → List HtmlPiece
-note_pieces None = own "</sup>" ∷ []
-note_pieces (Some id) = outside (shown id) ∷ own "</sup>" ∷ []
+-- ---- comments
+
+-- the end of the start tag of an element for the comment with this id, as it is written, if it has one
+abbrev pub remark_pieces : Option (List ℕ) → List HtmlPiece
+remark_pieces None = own ">" ∷ []
+remark_pieces (Some id) = own " data-remark=\"" ∷ outside (shown id) ∷ own "\">" ∷ []
+
+-- the same, and the end of an element that is empty
+abbrev pub empty_remark : Option (List ℕ) → List HtmlPiece
+empty_remark id = remark_pieces id ++ (own "</span>" ∷ [])
 
 -- ---- signs of equations
 
@@ -58,6 +64,14 @@ said_pieces text = own ": " ∷ outside (shown text) ∷ own "</span>" ∷ []
 abbrev pub description_pieces : Option (List ℕ) → List HtmlPiece
 description_pieces None = own "</span>" ∷ []
 description_pieces (Some text) = if length text == 0 then own "</span>" ∷ [] else said_pieces text
+
+-- the end of the start tag of the word, with the relationship that leads to the picture, as its id is written
+abbrev pub embed_pieces : Option (List ℕ) → List HtmlPiece
+embed_pieces None = own ">picture" ∷ []
+embed_pieces (Some id) = own " data-embed=\"" ∷ outside (shown id) ∷ own "\">picture" ∷ []
+
+abbrev pub picture_pieces : Option (List ℕ) → Option (List ℕ) → List HtmlPiece
+picture_pieces embed description = embed_pieces embed ++ description_pieces description
 
 -- ---- breaks
 

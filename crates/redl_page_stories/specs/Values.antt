@@ -64,6 +64,19 @@ value_in property no_nodes = None
 value_in property (bytes b rest) = value_in property rest
 value_in property (element tag kids rest) = option_or (given_by property tag) (value_in property rest)
 
+-- the relationship that leads to a picture: of DrawingML's or of VML's sort (20.1.8.13; Part 4, 19.1.2.11)
+abbrev pub embed_by : Tag → Option (List ℕ)
+embed_by tag =
+    if is_other tag.space && bytes_eq tag.local (codes "blip") then written_value tag.tail (codes "embed")
+    else if is_other tag.space && bytes_eq tag.local (codes "imagedata") then written_value tag.tail (codes "id")
+    else None
+
+-- the first one that is given among nodes, at every depth
+abbrev pub embed_in : Nodes → Option (List ℕ)
+embed_in no_nodes = None
+embed_in (bytes b rest) = embed_in rest
+embed_in (element tag kids rest) = option_or (option_or (embed_by tag) (embed_in kids)) (embed_in rest)
+
 -- an element that holds properties of this sort: those of a paragraph, of a cell, of a structure of an equation, or of a drawing
 abbrev pub holds : Property → Tag → Bool
 holds Style tag = is "pPr" tag

@@ -1,4 +1,4 @@
-//! Hidden, bold and italic runs.
+//! Bold and italic runs.
 
 ghost use Rattle.std.specs.Prelude.{◌≡◌, ◌||◌, Some, codes};
 ghost use Rattle.redl_tree.specs.Model.IdleTexts.{idle_nodes};
@@ -18,7 +18,6 @@ use redl_tree::{Elem, Node, Plain, Word, is_named, is_word};
 use std::convert::Infallible;
 
 const NONE: Emphasis = Emphasis {
-    hidden: false,
     bold: false,
     italic: false,
 };
@@ -26,8 +25,6 @@ const NONE: Emphasis = Emphasis {
 /// How a run is set, or what some properties of runs switch on.
 #[derive(Clone, Copy)]
 pub(crate) struct Emphasis {
-    /// Hidden.
-    pub hidden: bool,
     /// Bold.
     pub bold: bool,
     /// Italic.
@@ -37,7 +34,6 @@ pub(crate) struct Emphasis {
 impl Emphasis {
     /// That of a run with these kids.
     pub(crate) fn of_run(kids: &[Node]) -> Emphasis
-        ensures hidden { result.hidden ≡ has_property (codes "vanish") (nodes_of kids.now) }
         ensures bold { result.bold ≡ has_property (codes "b") (nodes_of kids.now) }
         ensures italic { result.italic ≡ has_property (codes "i") (nodes_of kids.now) }
     {
@@ -51,7 +47,6 @@ impl Emphasis {
     /// That of a run with whose kids this text begins.
     pub(crate) fn of_run_ahead(text: &[u8]) -> Emphasis
         requires { Begins text.now }
-        ensures hidden { (kids : Begins text.now) → result.hidden ≡ has_property (codes "vanish") kids.nodes }
         ensures bold { (kids : Begins text.now) → result.bold ≡ has_property (codes "b") kids.nodes }
         ensures italic { (kids : Begins text.now) → result.italic ≡ has_property (codes "i") kids.nodes }
     {
@@ -63,7 +58,6 @@ impl Emphasis {
 
     // What these properties switch on.
     fn of_properties(nodes: &[Node]) -> Emphasis
-        ensures hidden { result.hidden ≡ switched_on (codes "vanish") (nodes_of nodes.now) }
         ensures bold { result.bold ≡ switched_on (codes "b") (nodes_of nodes.now) }
         ensures italic { result.italic ≡ switched_on (codes "i") (nodes_of nodes.now) }
     {
@@ -76,7 +70,6 @@ impl Emphasis {
 
     // What these properties switch on, which a list keeps as text.
     fn of_idle_properties(plain: &Plain<'_>) -> Emphasis
-        ensures hidden { result.hidden ≡ switched_on (codes "vanish") (idle_nodes plain.now) }
         ensures bold { result.bold ≡ switched_on (codes "b") (idle_nodes plain.now) }
         ensures italic { result.italic ≡ switched_on (codes "i") (idle_nodes plain.now) }
     {
@@ -90,19 +83,16 @@ impl Emphasis {
     fn note(&mut self, local: &[u8], tail: &[u8])
         ensures { self.new ≡ noted self.old (letters_on Properties (tag_with local.now tail.now)) }
     {
-        self.hidden = self.hidden || is_on(local, tail, b"vanish");
         self.bold = self.bold || is_on(local, tail, b"b");
         self.italic = self.italic || is_on(local, tail, b"i");
     }
 
     // What it has, and what the other one has.
     fn with(self, other: Emphasis) -> Emphasis
-        ensures hidden { result.hidden ≡ (self.hidden || other.hidden) }
         ensures bold { result.bold ≡ (self.bold || other.bold) }
         ensures italic { result.italic ≡ (self.italic || other.italic) }
     {
         Emphasis {
-            hidden: self.hidden || other.hidden,
             bold: self.bold || other.bold,
             italic: self.italic || other.italic,
         }
@@ -111,7 +101,6 @@ impl Emphasis {
 
 // What a node among the kids of a run gives it.
 fn in_run(node: &Node) -> Emphasis
-    ensures hidden { result.hidden ≡ item_has_property (codes "vanish") (item_of node.now) }
     ensures bold { result.bold ≡ item_has_property (codes "b") (item_of node.now) }
     ensures italic { result.italic ≡ item_has_property (codes "i") (item_of node.now) }
 {
@@ -123,13 +112,11 @@ fn in_run(node: &Node) -> Emphasis
 
 // What a node among the properties of a run switches on.
 fn among_properties(node: &Node) -> Emphasis
-    ensures hidden { result.hidden ≡ item_switches (codes "vanish") (item_of node.now) }
     ensures bold { result.bold ≡ item_switches (codes "b") (item_of node.now) }
     ensures italic { result.italic ≡ item_switches (codes "i") (item_of node.now) }
 {
     match node {
         Node::Elem(elem) => Emphasis {
-            hidden: switches(elem, b"vanish"),
             bold: switches(elem, b"b"),
             italic: switches(elem, b"i"),
         },

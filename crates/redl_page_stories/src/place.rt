@@ -1,9 +1,11 @@
 //! What is round the nodes of a list.
 
-ghost use Rattle.std.specs.Prelude.{◌≡◌, ◌||◌};
-ghost use Rattle.redl_tree.specs.Model.View.{tag_of};
+ghost use Rattle.std.specs.Prelude.{◌≡◌, ◌||◌, if◌then◌else◌};
+ghost use Rattle.redl_hidden.specs.Runs.{paragraph_hides};
+ghost use Rattle.redl_tree.specs.Model.View.{kids_of, tag_of};
 ghost use Rattle.redl_tree.specs.Roles.Names.{is, is_math, named_math};
 
+use redl_hidden::HiddenStyles;
 use redl_tree::{Elem, Space, Word, is_named, is_quiet, is_word};
 
 /// What is round the nodes of a list.
@@ -13,6 +15,8 @@ pub(crate) struct PageSummary {
     pub loud: bool,
     /// The parent is a text.
     pub shows: bool,
+    /// The paragraph that they are in hides its runs.
+    pub hides: bool,
 }
 
 impl PageSummary {
@@ -26,17 +30,28 @@ impl PageSummary {
         PageSummary {
             loud: true,
             shows: false,
+            hides: false,
         }
     }
 
     /// The place of the kids of an element that has this place.
-    pub(crate) fn inside(self, elem: &Elem) -> PageSummary
-        ensures { result ≡ inside (tag_of elem.now) self }
+    pub(crate) fn inside(self, hidden: &HiddenStyles<'_>, elem: &Elem) -> PageSummary
+        ensures { result ≡ inside hidden.now (tag_of elem.now) (kids_of elem.now) self }
     {
         PageSummary {
             loud: self.loud && !is_quiet(elem),
             shows: self.loud && is_text(elem),
+            hides: self.hides_in(hidden, elem),
         }
+    }
+
+    fn hides_in(self, hidden: &HiddenStyles<'_>, elem: &Elem) -> bool
+        ensures { result ≡ (if is "p" (tag_of elem.now) then paragraph_hides hidden.now (kids_of elem.now) else self.hides) }
+    {
+        if is_word(elem, Word::P) {
+            return hidden.paragraph_hides(elem);
+        }
+        self.hides
     }
 
     /// The place of the kids of an idle element with this local name that has this place.
@@ -46,6 +61,7 @@ impl PageSummary {
         PageSummary {
             loud: self.loud && local != b"rPr".as_slice(),
             shows: self.loud && local == b"t".as_slice(),
+            hides: self.hides,
         }
     }
 }

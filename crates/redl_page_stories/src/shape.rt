@@ -5,11 +5,12 @@ ghost use Rattle.redl_tree.specs.Model.View.{nodes_of, item_of, tag_of, kids_of}
 ghost use Rattle.redl_tree.specs.Roles.Names.{is, is_m, is_math, of_w};
 ghost use Rattle.redl_idle.specs.Ahead.{Begins};
 ghost use Rattle.redl_page_stories.specs.Inside.Idle.{idle_shape};
-ghost use Rattle.redl_page_stories.specs.Shapes.{closing, hidden_shape, holds_blocks, holds_list, inline_named, inline_shape, is_block, is_foreign, is_note, is_other_form, is_paragraph, is_reference, math_shape, opening, run_shape, set_shape, shape_named, shape_of};
+ghost use Rattle.redl_page_stories.specs.Shapes.{closing, hidden_shape, holds_blocks, holds_list, inline_named, inline_shape, is_block, is_foreign, is_other_form, is_paragraph, list_shape, math_shape, noted, opening, reference_shape, run_shape, set_shape, shape_named, shape_of};
 ghost use Rattle.redl_page_stories.specs.Inside.Items.{item_holds};
 
 use crate::emphasis::Emphasis;
-use crate::place::is_in_math;
+use crate::place::{PageSummary, is_in_math};
+use redl_hidden::HiddenStyles;
 use redl_stamp::has_attribute;
 use redl_tree::{Elem, Node, Space, Word, is_word};
 
@@ -56,10 +57,22 @@ pub(crate) enum Shape {
     Symbol,
     /// A picture, a drawing or an object.
     Picture,
-    /// A reference to a note.
-    Reference,
-    /// A note that is no separator.
-    Note,
+    /// A reference to a note at the foot of a page.
+    FootnoteReference,
+    /// A reference to a note at the end of a section or of the document.
+    EndnoteReference,
+    /// Where what a comment is on starts.
+    RemarkStart,
+    /// Where it ends.
+    RemarkEnd,
+    /// A reference to a comment.
+    RemarkReference,
+    /// A note at the foot of a page that is no separator.
+    Footnote,
+    /// Such a note at the end of a section or of the document.
+    Endnote,
+    /// A comment.
+    Remark,
     /// What may hold a list of blocks of its own.
     Blocks,
     /// What among blocks is one of its own, and no paragraph.
@@ -89,24 +102,25 @@ pub(crate) enum Shape {
 }
 
 impl Shape {
-    /// The shape of an element, where no ancestor holds properties or one does.
-    pub(crate) fn of(elem: &Elem, loud: bool) -> Shape
-        ensures { result ≡ shape_of loud (tag_of elem.now) (kids_of elem.now) }
+    /// The shape of an element that has this place.
+    pub(crate) fn of(hidden: &HiddenStyles<'_>, place: PageSummary, elem: &Elem) -> Shape
+        ensures { result ≡ shape_of hidden.now place (tag_of elem.now) (kids_of elem.now) }
     {
-        if !loud {
+        if !place.loud {
             return Shape::Nothing;
         }
-        Shape::named(elem)
+        Shape::named(hidden, place.hides, elem)
     }
 
-    fn named(elem: &Elem) -> Shape
-        ensures { result ≡ shape_named (tag_of elem.now) (kids_of elem.now) }
+    // Its shape by its name, in a paragraph that hides its runs or not.
+    fn named(hidden: &HiddenStyles<'_>, paragraph: bool, elem: &Elem) -> Shape
+        ensures { result ≡ shape_named hidden.now paragraph (tag_of elem.now) (kids_of elem.now) }
     {
         if is_word(elem, Word::P) {
             return Shape::of_paragraph(elem);
         }
         if is_word(elem, Word::R) {
-            return Shape::of_run(elem);
+            return Shape::of_run(hidden, paragraph, elem);
         }
         if is_word(elem, Word::Tbl) {
             return Shape::Table;
@@ -128,15 +142,12 @@ impl Shape {
 
     // The shape of an element that none of the names above is.
     fn among_blocks(elem: &Elem) -> Shape
-        ensures { result ≡ (if is_note (tag_of elem.now) then Shape.Note else if holds_list (tag_of elem.now) then Shape.Blocks
+        ensures { result ≡ (if holds_list (tag_of elem.now) then list_shape (tag_of elem.now)
             else if is_foreign (tag_of elem.now) then Shape.Foreign
             else if is_m (tag_of elem.now).space then math_shape (tag_of elem.now) else inline_named (tag_of elem.now)) }
     {
-        if is_note(elem) {
-            return Shape::Note;
-        }
         if holds_list(elem) {
-            return Shape::Blocks;
+            return Shape::of_list(elem);
         }
         if is_foreign(elem) {
             return Shape::Foreign;
@@ -145,6 +156,32 @@ impl Shape {
             return Shape::of_math(elem);
         }
         Shape::inline(elem)
+    }
+
+    // The shape of an element that may hold a list of blocks of its own.
+    fn of_list(elem: &Elem) -> Shape
+        ensures { result ≡ list_shape (tag_of elem.now) }
+    {
+        if is_word(elem, Word::Footnote) {
+            return Shape::noted(Shape::Footnote, elem);
+        }
+        if is_word(elem, Word::Endnote) {
+            return Shape::noted(Shape::Endnote, elem);
+        }
+        if is_word(elem, Word::Comment) {
+            return Shape::Remark;
+        }
+        Shape::Blocks
+    }
+
+    // The shape of a note, or of a separator.
+    fn noted(note: Shape, elem: &Elem) -> Shape
+        ensures { result ≡ noted note (tag_of elem.now) }
+    {
+        if has_attribute(elem.tail(), b"type") {
+            return Shape::Blocks;
+        }
+        note
     }
 
     // The shape of an element of mathematics.
@@ -201,17 +238,20 @@ impl Shape {
         Shape::Paragraph
     }
 
-    fn of_run(elem: &Elem) -> Shape
-        ensures { result ≡ run_shape (kids_of elem.now) }
+    fn of_run(hidden: &HiddenStyles<'_>, paragraph: bool, elem: &Elem) -> Shape
+        ensures { result ≡ run_shape hidden.now paragraph (kids_of elem.now) }
     {
-        Shape::set(Emphasis::of_run(elem.kids()))
+        Shape::set(
+            hidden.run_hides(paragraph, elem),
+            Emphasis::of_run(elem.kids()),
+        )
     }
 
-    // The shape of a run that is set so.
-    fn set(emphasis: Emphasis) -> Shape
-        ensures { result ≡ (if emphasis.hidden then hidden_shape emphasis.bold emphasis.italic else set_shape emphasis.bold emphasis.italic) }
+    // The shape of a run that is hidden or not, and set so.
+    fn set(is_hidden: bool, emphasis: Emphasis) -> Shape
+        ensures { result ≡ (if is_hidden then hidden_shape emphasis.bold emphasis.italic else set_shape emphasis.bold emphasis.italic) }
     {
-        if emphasis.hidden {
+        if is_hidden {
             return Shape::hidden(emphasis.bold, emphasis.italic);
         }
         Shape::seen(emphasis.bold, emphasis.italic)
@@ -245,12 +285,34 @@ impl Shape {
         if elem.space() != Space::W {
             return Shape::Nothing;
         }
-        Shape::inline_by(elem.local(), is_reference(elem.local()))
+        Shape::inline_by(elem.local(), Shape::of_reference(elem.local()))
     }
 
-    // The shape of an element of W with this local name, which is a reference to a note or none.
-    fn inline_by(local: &[u8], is_reference: bool) -> Shape
-        ensures { result ≡ inline_shape is_reference (of_w local.now) }
+    // The shape of an element of W with this local name that refers to a note or to a comment, or else of none.
+    fn of_reference(local: &[u8]) -> Shape
+        ensures { result ≡ reference_shape (of_w local.now) }
+    {
+        if local == b"footnoteReference".as_slice() {
+            return Shape::FootnoteReference;
+        }
+        if local == b"endnoteReference".as_slice() {
+            return Shape::EndnoteReference;
+        }
+        if local == b"commentRangeStart".as_slice() {
+            return Shape::RemarkStart;
+        }
+        if local == b"commentRangeEnd".as_slice() {
+            return Shape::RemarkEnd;
+        }
+        if local == b"commentReference".as_slice() {
+            return Shape::RemarkReference;
+        }
+        Shape::Nothing
+    }
+
+    // The shape of an element of W with this local name, which as a reference is shown so.
+    fn inline_by(local: &[u8], reference: Shape) -> Shape
+        ensures { result ≡ inline_shape reference (of_w local.now) }
     {
         if local == b"tab".as_slice() {
             return Shape::Tab;
@@ -270,25 +332,36 @@ impl Shape {
         if is_picture(local) {
             return Shape::Picture;
         }
-        if is_reference {
-            return Shape::Reference;
-        }
-        Shape::Nothing
+        reference
     }
 
-    /// The shape of an idle element with this local name, with whose kids a text begins, where no ancestor holds properties or one
-    /// does.
-    pub(crate) fn of_idle(local: &[u8], ahead: &[u8], loud: bool) -> Shape
+    /// The shape of an idle element that has this place and this local name, with whose kids a text begins.
+    pub(crate) fn of_idle(
+        hidden: &HiddenStyles<'_>,
+        place: PageSummary,
+        local: &[u8],
+        ahead: &[u8],
+    ) -> Shape
         requires { Begins ahead.now }
-        ensures { (kids : Begins ahead.now) → result ≡ idle_shape loud local.now kids.nodes }
+        ensures { (kids : Begins ahead.now) → result ≡ idle_shape hidden.now place local.now kids.nodes }
     {
-        if !loud {
+        if !place.loud {
             return Shape::Nothing;
         }
         if local == b"r".as_slice() {
-            return Shape::set(Emphasis::of_run_ahead(ahead));
+            return Shape::of_run_ahead(hidden, place.hides, ahead);
         }
-        Shape::inline_by(local, is_reference(local))
+        Shape::inline_by(local, Shape::of_reference(local))
+    }
+
+    fn of_run_ahead(hidden: &HiddenStyles<'_>, paragraph: bool, ahead: &[u8]) -> Shape
+        requires { Begins ahead.now }
+        ensures { (kids : Begins ahead.now) → result ≡ run_shape hidden.now paragraph kids.nodes }
+    {
+        Shape::set(
+            hidden.run_hides_ahead(paragraph, ahead),
+            Emphasis::of_run_ahead(ahead),
+        )
     }
 
     /// Whether it is that of a paragraph.
@@ -298,7 +371,7 @@ impl Shape {
         matches!(self, Shape::Paragraph | Shape::Division)
     }
 
-    /// What comes before the kids; the rest of the start tag of a paragraph and of a cell and the id of a note come behind it.
+    /// What comes before the kids; the rest of a start tag and the sign of a note come behind it.
     pub(crate) fn opening(self) -> &'static [u8]
         ensures { result.now ≡ codes (opening self) }
     {
@@ -321,10 +394,16 @@ impl Shape {
             Shape::Break => b"<br>",
             Shape::Hyphen => b"&#8209;",
             Shape::SoftHyphen => b"&#173;",
-            Shape::Picture => b"<span class=\"picture\">picture",
+            Shape::Picture => b"<span class=\"picture\"",
             Shape::Symbol => b"<span class=\"symbol\">",
-            Shape::Reference => b"<sup>",
-            Shape::Note => b"<!--list--><sup>",
+            Shape::FootnoteReference => b"<sup>",
+            Shape::EndnoteReference => b"<sup>",
+            Shape::RemarkStart => b"<span class=\"remark-start\"",
+            Shape::RemarkEnd => b"<span class=\"remark-end\"",
+            Shape::RemarkReference => b"<sup class=\"remark\"",
+            Shape::Footnote => b"<!--list--><sup>",
+            Shape::Endnote => b"<!--list--><sup>",
+            Shape::Remark => b"<!--list--><span class=\"remark-own\"",
             Shape::Blocks => b"<!--list-->",
             Shape::Foreign => b"<!--other-->",
             Shape::OtherForm => b"<details><summary>kept in another form</summary>",
@@ -367,8 +446,14 @@ impl Shape {
             Shape::SoftHyphen => b"",
             Shape::Symbol => b"",
             Shape::Picture => b"",
-            Shape::Reference => b"",
-            Shape::Note => b"<!--/list-->",
+            Shape::FootnoteReference => b"",
+            Shape::EndnoteReference => b"",
+            Shape::RemarkStart => b"</span>",
+            Shape::RemarkEnd => b"</span>",
+            Shape::RemarkReference => b"</sup>",
+            Shape::Footnote => b"<!--/list-->",
+            Shape::Endnote => b"<!--/list-->",
+            Shape::Remark => b"<!--/list-->",
             Shape::Blocks => b"<!--/list-->",
             Shape::Foreign => b"<!--/other-->",
             Shape::Equation => b"</span>",
@@ -390,21 +475,6 @@ fn is_picture(local: &[u8]) -> bool
     ensures { result ≡ (is "drawing" (of_w local.now) || is "pict" (of_w local.now) || is "object" (of_w local.now)) }
 {
     local == b"drawing".as_slice() || local == b"pict".as_slice() || local == b"object".as_slice()
-}
-
-// Whether an element of W with this local name is a reference to a note.
-fn is_reference(local: &[u8]) -> bool
-    ensures { result ≡ is_reference (of_w local.now) }
-{
-    local == b"footnoteReference".as_slice() || local == b"endnoteReference".as_slice()
-}
-
-// Whether an element is a note that is no separator.
-fn is_note(elem: &Elem) -> bool
-    ensures { result ≡ is_note (tag_of elem.now) }
-{
-    (is_word(elem, Word::Footnote) || is_word(elem, Word::Endnote))
-        && !has_attribute(elem.tail(), b"type")
 }
 
 // Whether an element may hold a list of blocks of its own.

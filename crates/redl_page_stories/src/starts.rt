@@ -5,7 +5,7 @@ ghost use Rattle.redl_io.specs.Sink.{Puts};
 ghost use Rattle.redl_grammar.specs.References.{reference_at};
 ghost use Rattle.redl_tree.specs.Model.View.{nodes_of};
 ghost use Rattle.redl_html.specs.Pieces.{piece_text, pieces_text};
-ghost use Rattle.redl_page_stories.specs.Starts.{break_pieces, cell_pieces, character_piece, description_pieces, direction_pieces, is_agreed, merge_pieces, numbered, paragraph_pieces, referenced, said_pieces, sign_text, span_pieces, symbol_piece, symbol_pieces};
+ghost use Rattle.redl_page_stories.specs.Starts.{break_pieces, cell_pieces, character_piece, description_pieces, direction_pieces, embed_pieces, empty_remark, is_agreed, merge_pieces, numbered, paragraph_pieces, picture_pieces, referenced, remark_pieces, said_pieces, sign_text, span_pieces, symbol_piece, symbol_pieces};
 
 use crate::emphasis::is_off;
 use crate::shown::put_shown;
@@ -93,11 +93,37 @@ fn put_given_merge<K: Sink>(value: &[u8], out: &mut K) -> Result<(), Failed>
     put_piece(b" class=\"merged\"", out)
 }
 
-/// Puts what a picture is said to show, if anything is said, and the end of its word. It takes no memory.
-pub(crate) fn put_picture_end<K: Sink>(
+/// Puts what leads to a picture, and what it is said to show, if they are given, and the end of its word. It takes no memory.
+pub(crate) fn put_picture<K: Sink>(
+    embed: Option<&[u8]>,
     description: Option<&[u8]>,
     out: &mut K,
 ) -> Result<(), Failed>
+    ensures { Puts K.told K.faults K.settled K.lenders out.old out.new
+        (pieces_text (picture_pieces (option_map (λ id. id.now) embed.entry) (option_map (λ text. text.now) description.entry))) result }
+{
+    put_embed(embed, out)?;
+    put_picture_end(description, out)
+}
+
+fn put_embed<K: Sink>(id: Option<&[u8]>, out: &mut K) -> Result<(), Failed>
+    ensures { Puts K.told K.faults K.settled K.lenders out.old out.new (pieces_text (embed_pieces (option_map (λ id. id.now) id.entry))) result }
+{
+    match id {
+        Some(id) => put_given_embed(id, out),
+        None => put_piece(b">picture", out),
+    }
+}
+
+fn put_given_embed<K: Sink>(id: &[u8], out: &mut K) -> Result<(), Failed>
+    ensures { Puts K.told K.faults K.settled K.lenders out.old out.new (pieces_text (embed_pieces (Some id.now))) result }
+{
+    put_piece(b" data-embed=\"", out)?;
+    put_shown(id, out)?;
+    put_piece(b"\">picture", out)
+}
+
+fn put_picture_end<K: Sink>(description: Option<&[u8]>, out: &mut K) -> Result<(), Failed>
     ensures { Puts K.told K.faults K.settled K.lenders out.old out.new (pieces_text (description_pieces (option_map (λ text. text.now) description.entry))) result }
 {
     match description {
@@ -120,6 +146,32 @@ fn put_said<K: Sink>(text: &[u8], out: &mut K) -> Result<(), Failed>
 {
     put_piece(b": ", out)?;
     put_shown(text, out)?;
+    put_piece(b"</span>", out)
+}
+
+/// Puts the id of a comment, if it has one, and the end of the start tag of an element for it. It takes no memory.
+pub(crate) fn put_remark<K: Sink>(id: Option<&[u8]>, out: &mut K) -> Result<(), Failed>
+    ensures { Puts K.told K.faults K.settled K.lenders out.old out.new (pieces_text (remark_pieces (option_map (λ id. id.now) id.entry))) result }
+{
+    match id {
+        Some(id) => put_given_remark(id, out),
+        None => put_piece(b">", out),
+    }
+}
+
+fn put_given_remark<K: Sink>(id: &[u8], out: &mut K) -> Result<(), Failed>
+    ensures { Puts K.told K.faults K.settled K.lenders out.old out.new (pieces_text (remark_pieces (Some id.now))) result }
+{
+    put_piece(b" data-remark=\"", out)?;
+    put_shown(id, out)?;
+    put_piece(b"\">", out)
+}
+
+/// The same, and the end of the element. It takes no memory.
+pub(crate) fn put_empty_remark<K: Sink>(id: Option<&[u8]>, out: &mut K) -> Result<(), Failed>
+    ensures { Puts K.told K.faults K.settled K.lenders out.old out.new (pieces_text (empty_remark (option_map (λ id. id.now) id.entry))) result }
+{
+    put_remark(id, out)?;
     put_piece(b"</span>", out)
 }
 

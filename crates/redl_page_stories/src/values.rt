@@ -1,4 +1,4 @@
-//! What a page shows of the values of attributes: those of properties, and the ids of notes.
+//! What a page shows of the values of attributes of properties.
 
 ghost use Rattle.std.specs.Prelude.{◌≡◌, ◌&&◌, [], Some, bytes_eq, codes, unwrap_or};
 ghost use Rattle.std.specs.Option.{option_map};
@@ -10,7 +10,7 @@ ghost use Rattle.redl_laid.specs.Firsts.{first_item};
 ghost use Rattle.redl_tree.specs.Model.IdleTexts.{idle_nodes};
 ghost use Rattle.redl_tree.specs.Model.View.{nodes_of, item_of, tag_of};
 ghost use Rattle.redl_html.specs.Pieces.{pieces_text};
-ghost use Rattle.redl_page_stories.specs.Starts.{note_pieces, style_pieces};
+ghost use Rattle.redl_page_stories.specs.Starts.{style_pieces};
 ghost use Rattle.redl_page_stories.specs.Values.{given, holds, is_in, property_name, value_in, value_of};
 ghost use Rattle.redl_page_stories.specs.Inside.Items.{item_value, item_value_in};
 
@@ -232,21 +232,4 @@ fn put_named_style<K: Sink>(style: &[u8], out: &mut K) -> Result<(), Failed>
     put_piece(b" data-style=\"", out)?;
     put_shown(style, out)?;
     put_piece(b"\">", out)
-}
-
-/// Puts the id of a note, if it has one, and the end of its sign. It takes no memory.
-pub(crate) fn put_note<K: Sink>(id: Option<&[u8]>, out: &mut K) -> Result<(), Failed>
-    ensures { Puts K.told K.faults K.settled K.lenders out.old out.new (pieces_text (note_pieces (option_map (λ id. id.now) id.entry))) result }
-{
-    match id {
-        Some(id) => put_named_note(id, out),
-        None => put_piece(b"</sup>", out),
-    }
-}
-
-fn put_named_note<K: Sink>(id: &[u8], out: &mut K) -> Result<(), Failed>
-    ensures { Puts K.told K.faults K.settled K.lenders out.old out.new (pieces_text (note_pieces (Some id.now))) result }
-{
-    put_shown(id, out)?;
-    put_piece(b"</sup>", out)
 }

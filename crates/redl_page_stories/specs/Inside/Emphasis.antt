@@ -24,7 +24,7 @@ letter_if_on letter name tag = if switches (codes name) tag then codes letter el
 -- what an element shows at this level
 abbrev pub letters_on : Level → Tag → List ℕ
 letters_on Kids tag = []
-letters_on Properties tag = letter_if_on "v" "vanish" tag ++ (letter_if_on "b" "b" tag ++ letter_if_on "i" "i" tag)
+letters_on Properties tag = letter_if_on "b" "b" tag ++ letter_if_on "i" "i" tag
 letters_on Below tag = []
 
 -- the level of its kids
@@ -46,12 +46,12 @@ emphasis_rule = record {
 abbrev pub has_byte : ℕ → List ℕ → Bool
 has_byte byte text = list_any (λ b. b == byte) text
 
-abbrev pub emphasis : Bool → Bool → Bool → Emphasis
-emphasis hidden bold italic = record { hidden = hidden; bold = bold; italic = italic }
+abbrev pub emphasis : Bool → Bool → Emphasis
+emphasis bold italic = record { bold = bold; italic = italic }
 
 -- a property is on if its letter was shown, or if it was on before
 abbrev pub noted : Emphasis → List ℕ → Emphasis
-noted old text = emphasis (old.hidden || has_byte 118 text) (old.bold || has_byte 98 text) (old.italic || has_byte 105 text)
+noted old text = emphasis (old.bold || has_byte 98 text) (old.italic || has_byte 105 text)
 
 or_none : (b : Bool) → (b || false) ≡ b
 or_none true = refl
@@ -63,12 +63,10 @@ more byte old first rest =
 
 pub noted_nothing : (old : Emphasis) → noted old [] ≡ old
 noted_nothing old =
-    ap (λ h. emphasis h (old.bold || false) (old.italic || false)) (or_none old.hidden)
-    ∙ ap (λ b. emphasis old.hidden b (old.italic || false)) (or_none old.bold)
-    ∙ ap (λ i. emphasis old.hidden old.bold i) (or_none old.italic)
+    ap (λ b. emphasis b (old.italic || false)) (or_none old.bold)
+    ∙ ap (λ i. emphasis old.bold i) (or_none old.italic)
 
 pub noted_more : (old : Emphasis) (first rest : List ℕ) → noted (noted old first) rest ≡ noted old (first ++ rest)
 noted_more old first rest =
-    ap (λ h. emphasis h ((old.bold || has_byte 98 first) || has_byte 98 rest) ((old.italic || has_byte 105 first) || has_byte 105 rest)) (more 118 old.hidden first rest)
-    ∙ ap (λ b. emphasis (old.hidden || has_byte 118 (first ++ rest)) b ((old.italic || has_byte 105 first) || has_byte 105 rest)) (more 98 old.bold first rest)
-    ∙ ap (λ i. emphasis (old.hidden || has_byte 118 (first ++ rest)) (old.bold || has_byte 98 (first ++ rest)) i) (more 105 old.italic first rest)
+    ap (λ b. emphasis b ((old.italic || has_byte 105 first) || has_byte 105 rest)) (more 98 old.bold first rest)
+    ∙ ap (λ i. emphasis (old.bold || has_byte 98 (first ++ rest)) i) (more 105 old.italic first rest)

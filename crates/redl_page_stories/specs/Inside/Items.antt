@@ -1,5 +1,6 @@
 -- What one node of a list is, has or shows: bytes, an element, or idle elements that the list keeps as text.
-use Rattle.std.specs.Prelude.{ℕ, List, [], Bool, false, ◌&&◌, ◌||◌, Option, None, codes, if◌then◌else◌}
+use Rattle.std.specs.Prelude.{ℕ, List, [], Bool, false, ◌&&◌, ◌||◌, Option, None, if◌then◌else◌}
+use Rattle.std.specs.Option.{option_or}
 use Rattle.redl_tree.specs.Model.IdleTexts.{idle_nodes}
 use Rattle.redl_tree.specs.Model.Nodes.{Tag, Nodes, Item, bytes_item, element_item, idle_item}
 use Rattle.redl_tree.specs.Roles.Kinds.{is_mark}
@@ -11,8 +12,9 @@ use Rattle.redl_page_stories.specs.declared.marks.Depth.TheVariants.{Kids, Prope
 use Rattle.redl_page_stories.specs.declared.place.PageSummary.{PageSummary}
 use Rattle.redl_page_stories.specs.Document.{bytes_pieces, element_pieces, inside, marks_in, nodes_pieces}
 use Rattle.redl_html.specs.Pieces.{HtmlPiece}
+use Rattle.redl_page_stories.specs.Facts.{Facts}
 use Rattle.redl_page_stories.specs.Shapes.{holds_blocks, is_block, switched_on, switches}
-use Rattle.redl_page_stories.specs.Values.{given_by, holds, value_in}
+use Rattle.redl_page_stories.specs.Values.{embed_by, embed_in, given_by, holds, value_in}
 use Rattle.redl_page_stories.specs.Signs.{member}
 
 -- ---- blocks
@@ -45,6 +47,12 @@ item_value_in property (bytes_item b) = None
 item_value_in property (element_item tag kids) = given_by property tag
 item_value_in property (idle_item t) = value_in property (idle_nodes t)
 
+-- the relationship to a picture that is given in it
+abbrev pub item_embed : Item → Option (List ℕ)
+item_embed (bytes_item b) = None
+item_embed (element_item tag kids) = option_or (embed_by tag) (embed_in kids)
+item_embed (idle_item t) = None
+
 -- what the properties that it is give
 abbrev pub item_value : Property → Item → Option (List ℕ)
 item_value property (bytes_item b) = None
@@ -67,8 +75,8 @@ item_marks revisions depth (idle_item t) = []
 
 -- ---- all that is shown of it
 
-abbrev pub item_pieces : (List ℕ → List ℕ) → List Revision → PageSummary → Item → List HtmlPiece
-item_pieces shown revisions place (bytes_item b) = bytes_pieces shown place b
-item_pieces shown revisions place (element_item tag kids) =
-    element_pieces revisions place tag kids (nodes_pieces shown revisions (inside tag place) kids)
-item_pieces shown revisions place (idle_item t) = nodes_pieces shown revisions place (idle_nodes t)
+abbrev pub item_pieces : (List ℕ → List ℕ) → Facts → PageSummary → Item → List HtmlPiece
+item_pieces shown facts place (bytes_item b) = bytes_pieces shown place b
+item_pieces shown facts place (element_item tag kids) =
+    element_pieces facts place tag kids (nodes_pieces shown facts (inside facts.hidden tag kids place) kids)
+item_pieces shown facts place (idle_item t) = nodes_pieces shown facts place (idle_nodes t)

@@ -6,4 +6,4 @@ pub returns-in_err-put_piece : goal.returns-in_err-put_piece
 returns-in_err-put_piece g c = puts_fails _ refl c.from_residual.ensures.1 (rw c.opening.ensures at c.in_err-put_piece.ensures)
 
 pub returns : goal.returns
-returns g c = puts_then refl (rw c.opening.ensures at c.in_ok-put_piece.ensures) c.put_behind_idle.ensures
+returns g c = puts_then refl (rw c.opening.ensures at c.in_ok-put_piece.ensures) c.put_behind_alone.ensures

@@ -1,4 +1,3 @@
-use Rattle.std.proofs.Common.{refl}
 use Rattle.redl_io.proofs.Puts.{puts_then, puts_fails}
 use Rattle.redl_tree.specs.Model.View.{nodes_of}
 use Rattle.redl_page_stories.proofs.StartLaws.{found_is, paragraph-text}

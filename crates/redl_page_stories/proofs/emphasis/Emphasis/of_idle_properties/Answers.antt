@@ -1,9 +1,6 @@
 use Rattle.std.proofs.Common.{ap, ◌∙◌}
-use Rattle.redl_page_stories.proofs.EmphasisLaws.{bold_idle, hidden_idle, italic_idle}
+use Rattle.redl_page_stories.proofs.EmphasisLaws.{bold_idle, italic_idle}
 use Rattle.redl_page_stories.proofs.emphasis.Emphasis.of_idle_properties.Goals as goal
-
-pub returns-clause-hidden : goal.returns-clause-hidden
-returns-clause-hidden c = ap (λ e. e.hidden) c.in-Ok.ensures ∙ hidden_idle c.args.plain.now
 
 pub returns-clause-bold : goal.returns-clause-bold
 returns-clause-bold c = ap (λ e. e.bold) c.in-Ok.ensures ∙ bold_idle c.args.plain.now

@@ -15,8 +15,6 @@ loop-node-preserved c =
     let rest = nodes_of (drop (c.loop-node.node-index + 1) c.args.nodes.now) in
     let here : left ≡ in_front x rest = nodes_here c.args.nodes.now c.loop-node.node-index c.node-item.result (omega arith) c.node-item.is in
     record {
-      hidden = found_more c.loop-node.found.hidden (item_switches (codes "vanish") x) (switched_on (codes "vanish") rest) c.with-found.result.hidden (switched_on (codes "vanish") (nodes_of c.args.nodes.now)) (switched_on (codes "vanish") left)
-          (c.with-found.ensures.hidden ∙ ap (λ b. c.loop-node.found.hidden || b) c.among_properties.ensures.hidden) (switched_on-next (codes "vanish") left x rest here) c.loop-node.invariant.hidden;
       bold = found_more c.loop-node.found.bold (item_switches (codes "b") x) (switched_on (codes "b") rest) c.with-found.result.bold (switched_on (codes "b") (nodes_of c.args.nodes.now)) (switched_on (codes "b") left)
           (c.with-found.ensures.bold ∙ ap (λ b. c.loop-node.found.bold || b) c.among_properties.ensures.bold) (switched_on-next (codes "b") left x rest here) c.loop-node.invariant.bold;
       italic = found_more c.loop-node.found.italic (item_switches (codes "i") x) (switched_on (codes "i") rest) c.with-found.result.italic (switched_on (codes "i") (nodes_of c.args.nodes.now)) (switched_on (codes "i") left)

@@ -6,7 +6,6 @@ use Rattle.redl_page_stories.proofs.emphasis.Emphasis.of_properties.Given as goa
 -- what was found, or is switched on by the nodes that are left, is switched on by the nodes
 abbrev pub invariant-loop-node : goal.invariant-loop-node
 invariant-loop-node l = record {
-  hidden : (l.found.hidden || switched_on (codes "vanish") (nodes_of (drop l.node-index l.nodes))) ≡ switched_on (codes "vanish") (nodes_of l.nodes);
   bold : (l.found.bold || switched_on (codes "b") (nodes_of (drop l.node-index l.nodes))) ≡ switched_on (codes "b") (nodes_of l.nodes);
   italic : (l.found.italic || switched_on (codes "i") (nodes_of (drop l.node-index l.nodes))) ≡ switched_on (codes "i") (nodes_of l.nodes);
 }

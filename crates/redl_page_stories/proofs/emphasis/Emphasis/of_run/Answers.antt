@@ -15,8 +15,6 @@ loop-node-preserved c =
     let rest = nodes_of (drop (c.loop-node.node-index + 1) c.args.kids.now) in
     let here : left ≡ in_front x rest = nodes_here c.args.kids.now c.loop-node.node-index c.node-item.result (omega arith) c.node-item.is in
     record {
-      hidden = found_more c.loop-node.found.hidden (item_has_property (codes "vanish") x) (has_property (codes "vanish") rest) c.with-found.result.hidden (has_property (codes "vanish") (nodes_of c.args.kids.now)) (has_property (codes "vanish") left)
-          (c.with-found.ensures.hidden ∙ ap (λ b. c.loop-node.found.hidden || b) c.in_run.ensures.hidden) (has_property-next (codes "vanish") left x rest here) c.loop-node.invariant.hidden;
       bold = found_more c.loop-node.found.bold (item_has_property (codes "b") x) (has_property (codes "b") rest) c.with-found.result.bold (has_property (codes "b") (nodes_of c.args.kids.now)) (has_property (codes "b") left)
           (c.with-found.ensures.bold ∙ ap (λ b. c.loop-node.found.bold || b) c.in_run.ensures.bold) (has_property-next (codes "b") left x rest here) c.loop-node.invariant.bold;
       italic = found_more c.loop-node.found.italic (item_has_property (codes "i") x) (has_property (codes "i") rest) c.with-found.result.italic (has_property (codes "i") (nodes_of c.args.kids.now)) (has_property (codes "i") left)

@@ -6,7 +6,6 @@ use Rattle.redl_page_stories.proofs.emphasis.Emphasis.of_run.Given as goal
 -- what was found, or is in the nodes that are left, is in the nodes
 abbrev pub invariant-loop-node : goal.invariant-loop-node
 invariant-loop-node l = record {
-  hidden : (l.found.hidden || has_property (codes "vanish") (nodes_of (drop l.node-index l.kids))) ≡ has_property (codes "vanish") (nodes_of l.kids);
   bold : (l.found.bold || has_property (codes "b") (nodes_of (drop l.node-index l.kids))) ≡ has_property (codes "b") (nodes_of l.kids);
   italic : (l.found.italic || has_property (codes "i") (nodes_of (drop l.node-index l.kids))) ≡ has_property (codes "i") (nodes_of l.kids);
 }

@@ -62,14 +62,32 @@ returns-in-HiddenItalic c = rw c.in-HiddenItalic.is refl
 pub returns-in-HiddenBoldItalic : goal.returns-in-HiddenBoldItalic
 returns-in-HiddenBoldItalic c = rw c.in-HiddenBoldItalic.is refl
 
-pub returns-in-Note : goal.returns-in-Note
-returns-in-Note c = rw c.in-Note.is refl
+pub returns-in-Footnote : goal.returns-in-Footnote
+returns-in-Footnote c = rw c.in-Footnote.is refl
+
+pub returns-in-Endnote : goal.returns-in-Endnote
+returns-in-Endnote c = rw c.in-Endnote.is refl
+
+pub returns-in-Remark : goal.returns-in-Remark
+returns-in-Remark c = rw c.in-Remark.is refl
 
 pub returns-in-Symbol : goal.returns-in-Symbol
 returns-in-Symbol c = rw c.in-Symbol.is refl
 
-pub returns-in-Reference : goal.returns-in-Reference
-returns-in-Reference c = rw c.in-Reference.is refl
+pub returns-in-FootnoteReference : goal.returns-in-FootnoteReference
+returns-in-FootnoteReference c = rw c.in-FootnoteReference.is refl
+
+pub returns-in-EndnoteReference : goal.returns-in-EndnoteReference
+returns-in-EndnoteReference c = rw c.in-EndnoteReference.is refl
+
+pub returns-in-RemarkStart : goal.returns-in-RemarkStart
+returns-in-RemarkStart c = rw c.in-RemarkStart.is refl
+
+pub returns-in-RemarkEnd : goal.returns-in-RemarkEnd
+returns-in-RemarkEnd c = rw c.in-RemarkEnd.is refl
+
+pub returns-in-RemarkReference : goal.returns-in-RemarkReference
+returns-in-RemarkReference c = rw c.in-RemarkReference.is refl
 
 pub returns-in-Blocks : goal.returns-in-Blocks
 returns-in-Blocks c = rw c.in-Blocks.is refl
