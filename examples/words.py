@@ -10,7 +10,9 @@ import sys
 
 import clauses
 import comments
+import edits
 import formats
+import hidden
 import places
 import reading
 import texts
@@ -150,6 +152,7 @@ def full(package, entries):
     rows = json.loads(reading.listed(package, entries, "json"))
     entries = reading.admitted(package, entries)
     on, _ = comments.comments_on(package)
+    acts, hides = edits.edits(package), hidden.revisions(package)
     for row in rows:
         row["words"], row["before"], row["after"] = excerpt(package, row["number"])
         members = members_of(package, row["number"])
@@ -160,6 +163,7 @@ def full(package, entries):
         kept, count = on[row["number"] - 1]
         row["comments"] = [comments.row_of(it) for it in kept]
         row["comments_more"] = count - len(kept)
+        row["edit"], row["hidden"] = acts[row["number"] - 1], hides[row["number"] - 1]
         row["place"] = places.place_of(package, row["number"])
         row["id"] = members[0].attribute("id") if members else None
         row["says"] = [{"reviewer": entry.reviewer, "word": entry.word} for entry in says_of(row["number"], entries)]
