@@ -8,7 +8,7 @@ pub(crate) const FRONT: &str = "{package}{document}";
 pub(crate) const BACK: &str = "{/document}{/package}";
 
 // Each name and its text. A text that holds another one comes first.
-const NAMES: [(&str, &str); 27] = [
+const NAMES: [(&str, &str); 28] = [
     (
         "{A}",
         " w:id=\"1\" w:author=\"Ann\" w:date=\"2024-05-06T07:08:09Z\"",
@@ -79,6 +79,10 @@ const NAMES: [(&str, &str); 27] = [
     ),
     (
         "{/page}",
+        "</ul>\n<ul class=\"remarks\" hidden>\n</ul>\n<ul class=\"pictures\" hidden>\n</ul>\n</aside>\n<script>1 < 2</script>\n</body>\n</html>\n",
+    ),
+    (
+        "{/lists}",
         "</ul>\n</aside>\n<script>1 < 2</script>\n</body>\n</html>\n",
     ),
     ("{n}", "\n"),
