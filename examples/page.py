@@ -1,6 +1,6 @@
 """A second writer of the page that a reviewer opens in a browser, as docs/PROGRAMS.md tells it.
 
-    python3 page.py PACKAGE [--title TEXT] [--rank N] [--lock AUTHOR ..] [JOURNAL ..]        the page, on standard output
+    python3 page.py PACKAGE [--title TEXT] [--rank N] [--no-pictures] [--lock AUTHOR ..] [JOURNAL ..]        the page, on standard output
 
 It shares no code with the program but the page's script and style, which are texts of their own. The gate compares the
 program's pages with what this makes of the same files, and the browser's test can run on either.
@@ -13,21 +13,16 @@ import re
 import sys
 
 import clauses
+import comments
+import edits
 import formats
+import hidden
+import page_lists
 import places
 import reading
+from page_lists import attributes, escaped
 
 SKIN = os.path.join(os.path.dirname(os.path.dirname(os.path.abspath(__file__))), "crates", "redl_skin", "page")
-
-REFERENCES = {"&": "&amp;", "<": "&lt;", ">": "&gt;", '"': "&quot;", "'": "&#39;", "\r": "&#13;"}
-# The control characters of ASCII that HTML doesn't allow.
-FORBIDDEN = re.compile("[\x00-\x08\x0b\x0e-\x1f\x7f]")
-
-
-def escaped(text):
-    """Text from outside, as it stands in the page: six characters as references, and no control character of ASCII."""
-    return FORBIDDEN.sub("\ufffd", re.sub("[&<>\"'\r]", lambda found: REFERENCES[found.group()], text))
-
 
 # The document
 
@@ -76,6 +71,11 @@ class Page:
     def __init__(self, package, entries, locks=()):
         self.package, self.locks = package, locks
         self.book = reading.admitted(package, entries, locks)
+        # (comments are looked for at each change, which takes long)
+        self.remarks = comments.comments_on(package)[0] if comments.comments_of(package) else [([], 0)] * len(package.revisions)
+        self.edits = edits.edits(package)
+        self.hides = hidden.Styles(package).hides
+        self.signs = {kind: places.signs_of(package, kind) for kind in ("footnote", "endnote")}
         found = (element for _, root in package.stories for element in reading.elements([root]))
         self.changes = {element.number: element for element in found if element.number and element.role in reading.CHANGES.values()}
 
@@ -125,6 +125,11 @@ class Page:
 
     # All elements
 
+    def note(self, element):
+        """The sign of a note, where it is named and where it stands."""
+        kind = element.local.removesuffix("Reference")
+        return "<sup>%s</sup>" % self.signs[kind].get(element.written_value("id") or "", "")
+
     def paragraph(self, element):
         style = first_value(element, "pPr", "pStyle")
         start, end = ('<div class="p"', "</div>\n") if holds_blocks(element) else ("<p", "</p>\n")
@@ -160,18 +165,19 @@ class Page:
             return self.cell(element)
         if element.local == "r":
             names = [name for name in "bi" if is_on(element, name)]
-            start, end = ('<span class="hidden">', "</span>") if is_on(element, "vanish") else ("", "")
+            start, end = ('<span class="hidden">', "</span>") if self.hides(element) else ("", "")
             return start + "".join("<%s>" % it for it in names), "".join("</%s>" % it for it in reversed(names)) + end
-        sign = "<sup>%s</sup>" % escaped(shown(element.written_value("id") or ""))
         if element.is_w("footnoteReference", "endnoteReference"):
-            return sign, ""
+            return self.note(element), ""
         if element.is_w("sdt", "customXml", "footnote", "endnote", "comment"):
             is_note = element.is_w("footnote", "endnote") and element.attribute("type") is None
-            return "<!--list-->" + (sign if is_note else ""), "<!--/list-->"
+            return "<!--list-->" + (self.note(element) if is_note else remarked(element) if element.is_w("comment") else ""), "<!--/list-->"
+        if element.local in REMARKED:
+            return remarked(element), ""
         if element.is_w("br", "cr"):
             return "<br>" + ENDS.get(element.written_value("type"), ""), ""
         if element.is_w("drawing", "pict", "object"):
-            return '<span class="picture">picture%s</span>' % described(element), ""
+            return '<span class="picture"%s>picture%s</span>' % (embedded(element), described(element)), ""
         if element.local == "sym":
             return symbol(element.written_value("char") or ""), ""
         return FIXED.get(element.local, ("", ""))
@@ -186,12 +192,22 @@ class Page:
                 out.append(escaped(shown(node)))
         return "".join(out)
 
+    def sections(self):
+        """The stories as they are shown: documents, and then the others."""
+        return sorted(self.package.stories, key=lambda story: story[1].local != "document")
+
     def document(self):
         out = ""
-        for place, (name, root) in enumerate(self.package.stories):
-            heading = "<h2>%s</h2>\n" % escaped(name) if place else ""
-            out += '<section data-story="%s">\n' % escaped(root.local) + heading + self.nodes(root.kids, root) + "</section>\n"
+        for place, (name, root) in enumerate(self.sections()):
+            is_first = place == 0 and root.local == "document"
+            heading = "" if is_first else "<h2>%s</h2>\n" % escaped(STORIES.get(root.local, name))
+            out += "<section%s>\n" % attributes(("story", root.local), ("part", name)) + heading + self.nodes(root.kids, root) + "</section>\n"
         return out
+
+    def lists(self, has_pictures):
+        """What the script reads beside the document."""
+        shown = page_lists.pictures(self.package) if has_pictures else ""
+        return page_lists.remarks(self.package) + page_lists.all_numbers(self.package, self.sections()) + shown
 
     # The list of changes
 
@@ -219,9 +235,11 @@ class Page:
         if revision.date is not None:
             date = reading.date_of(revision.date)
         locked = "yes" if reading.refusal(self.package, ("", 1, number, "accept"), self.locks) else "no"
-        values = (number, revision.kind, escaped(revision.author), date, reading.verdict(number, self.book), locked)
-        start = '<li id="revision-%d" data-kind="%s" data-author="%s" data-date="%s" data-verdict="%s" data-locked="%s">'
-        return start % values + self.words(number) + self.says(number) + "</li>\n"
+        remarks = " ".join(it.id for it in self.remarks[number - 1][0]) or None
+        said = (
+            ("kind", revision.kind), ("author", revision.author), ("date", date), ("edit", self.edits[number - 1]), ("remarks", remarks),
+            ("verdict", reading.verdict(number, self.book)), ("locked", locked))
+        return '<li id="revision-%d"%s>' % (number, attributes(*said)) + self.words(number) + self.says(number) + "</li>\n"
 
     def reviewers(self):
         greatest = {}
@@ -246,6 +264,21 @@ def described(picture):
     values = [it.written_value("descr") for around in elements(picture.kids) for it in elements(around.kids) if it.local == "docPr"]
     value = next((it for it in values if it is not None), "")
     return ": " + escaped(shown(value)) if value else ""
+
+
+def embedded(picture):
+    """The relationship by which a picture has its first image."""
+    names = {"blip": "embed", "imagedata": "id"}
+    found = [it.written_value(names[it.local]) for it in reading.elements(picture.kids) if it.space == "other" and it.local in names]
+    value = next((it for it in found if it is not None), None)
+    return attributes(("embed", None if value is None else shown(value)))
+
+
+def remarked(element):
+    """A place of a comment, without words."""
+    id = element.written_value("id")
+    start = '<%s class="%s"%s>' % (*REMARKED[element.local], attributes(("remark", None if id is None else shown(id))))
+    return start + "</%s>" % REMARKED[element.local][0]
 
 
 def structure(element):
@@ -291,6 +324,15 @@ def rank_of(entry):
     return entry[4] if len(entry) > 4 else 0
 
 
+# Where a comment begins and ends, where it is named, and where it stands.
+REMARKED = {
+    "commentRangeStart": ("span", "remark-start"),
+    "commentRangeEnd": ("span", "remark-end"),
+    "commentReference": ("sup", "remark"),
+    "comment": ("span", "remark-own"),
+}
+STORIES = {"hdr": "Header", "ftr": "Footer", "footnotes": "Footnotes", "endnotes": "Endnotes", "comments": "Comments"}
+
 ENDS = {"page": '<span class="page-end"></span>', "column": '<span class="column-end"></span>'}
 
 FIXED = {
@@ -320,7 +362,7 @@ WHOLE = """<!DOCTYPE html>
 {rows}</ol>
 <ul>
 {reviewers}</ul>
-</aside>
+{lists}</aside>
 <script>{script}</script>
 </body>
 </html>
@@ -354,7 +396,7 @@ def skin():
     return policy(style, script), style, script
 
 
-def page(package, entries, locks=(), title=None, rank=None):
+def page(package, entries, locks=(), title=None, rank=None, has_pictures=True):
     """The page of a package with the entries of journals, and with the title and the rank that the sender gives, as text."""
     rules, style, script = skin()
     of = Page(package, entries, locks)
@@ -369,6 +411,7 @@ def page(package, entries, locks=(), title=None, rank=None):
         "document": of.document(),
         "rows": "".join(of.row(number, it) for number, it in enumerate(package.revisions, 1)),
         "reviewers": of.reviewers(),
+        "lists": of.lists(has_pictures),
     }
     return re.sub("{(%s)}" % "|".join(values), lambda found: values[found.group(1)], WHOLE)
 
@@ -390,11 +433,12 @@ def main(words):
     parser.add_argument("journals", nargs="*")
     parser.add_argument("--title")
     parser.add_argument("--rank")
+    parser.add_argument("--no-pictures", action="store_true")
     parser.add_argument("--lock", action="append", default=[])
     given = parser.parse_intermixed_args(words)
     entries = sum((entries_of(read(name)) for name in given.journals), [])
     sys.stdout.reconfigure(encoding="utf-8", newline="")
-    sys.stdout.write(page(reading.Package(read(given.package)), entries, given.lock, given.title, given.rank))
+    sys.stdout.write(page(reading.Package(read(given.package)), entries, given.lock, given.title, given.rank, not given.no_pictures))
 
 
 if __name__ == "__main__":
