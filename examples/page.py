@@ -372,16 +372,16 @@ WHOLE = """<!DOCTYPE html>
 def policy(style, script):
     """The security policy of the page: this style and this script alone, and nothing is ever fetched."""
     digest = lambda text: "'sha256-%s'" % base64.b64encode(hashlib.sha256(text.encode()).digest()).decode()
-    rules = "default-src 'none'; script-src %s; style-src %s; base-uri 'none'; form-action 'none'; require-trusted-types-for 'script'; trusted-types 'none'"
+    rules = "default-src 'none'; script-src %s; style-src %s; img-src data:; base-uri 'none'; form-action 'none'; require-trusted-types-for 'script'; trusted-types 'none'"
     return rules % (digest(script), digest(style))
 
 
 # The files of the style and of the script, in the order in which they are put together.
-STYLES = ["base", "bar", "document", "changes", "views", "list", "dialogs", "media"]
+STYLES = ["base", "bar", "document", "remarks", "changes", "views", "list", "dialogs", "media"]
 SCRIPTS = [
-    "elements", "kinds", "facts", "bars", "dialogs", "signs", "views", "document", "dress", "parts", "excerpts", "list", "words", "verdicts",
-    "blocks", "passes", "picture", "chosen", "decisions", "undo", "filters", "store", "opening", "names", "journal", "summary", "help",
-    "keys", "outside", "copies", "start",
+    "elements", "kinds", "facts", "edits", "bars", "dialogs", "signs", "views", "document", "numbers", "notes", "images", "remarks", "dress",
+    "parts", "excerpts", "list", "words", "verdicts", "blocks", "passes", "picture", "chosen", "decisions", "undo", "filters", "store",
+    "opening", "names", "journal", "summary", "help", "keys", "outside", "copies", "start",
 ]
 
 

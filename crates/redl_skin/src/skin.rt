@@ -2,7 +2,7 @@
 
 /// The security policy of the page: its own style and script alone, and nothing is ever fetched.
 pub const POLICY: &str =
-    "default-src 'none'; script-src 'sha256-7uAEv7Mj+T6um5pBRtz2xo1/b0atXNTdUVEyoCKDVp0='; style-src 'sha256-/OLt8KqrdMDYWv561IVcaXhoMpouIkdPhAVfEVTkA1E='; base-uri 'none'; form-action 'none'; require-trusted-types-for 'script'; trusted-types 'none'";
+    "default-src 'none'; script-src 'sha256-cY+WcBPxkcsJSy17L46uai4YPbKZxFeLlz/jwi+e1fc='; style-src 'sha256-pnpG8VG8UznXJekKloDcZwgmf7s7Dyi5GVMW4O2FyxA='; img-src data:; base-uri 'none'; form-action 'none'; require-trusted-types-for 'script'; trusted-types 'none'";
 
 /// The style sheet of the page.
 pub const STYLE: &str = "/* colours, and what all elements share */
@@ -55,9 +55,8 @@ summary { cursor: pointer; }
 .filter { display: grid; grid-template-columns: repeat(6, 1fr); gap: .5rem; padding-top: .3rem; }
 .filter > * { grid-column: span 2; }
 .filter > button { grid-column: span 3; }
-.filter label:has(#search) { grid-column: span 4; }
-.filter label:has(#advance) { align-content: space-between; justify-items: start; }
-#advance { width: 1.1rem; height: 1.1rem; margin: .35rem 0; }
+.filter label:has(#advance, #together) { align-content: space-between; justify-items: start; }
+#advance, #together { width: 1.1rem; height: 1.1rem; margin: .35rem 0; }
 .filter select { padding: .15rem; }
 .keys { margin: 0; padding: .5rem 1rem; color: var(--soft); font-size: .8rem; }
 kbd { border: 1px solid var(--soft); border-radius: 3px; padding: 0 .35em; font: .75rem ui-monospace, monospace; margin-left: .6em; }
@@ -109,6 +108,26 @@ td > p:last-child { margin: 0; }
 }
 main details { border-left: 2px solid var(--rule); padding-left: .6rem; }
 main summary { font: .8rem/1.6 system-ui, \"Liberation Sans\", sans-serif; color: var(--soft); }
+
+/* numbers of clauses, pictures, notes and comments */
+main [data-number]::before { content: attr(data-number); unicode-bidi: isolate; display: inline-block; min-width: 1.8em; margin-inline-end: .5em; color: var(--soft); font-variant-numeric: tabular-nums; text-decoration: none; }
+main .joined > :is(p, .p)::before { content: none; }
+.picture.seen { border: 0; padding: 0; }
+.picture img { max-width: 100%; max-height: 90vh; vertical-align: bottom; }
+sup[role=\"link\"] { cursor: pointer; color: var(--focus); text-decoration: underline 1px; }
+.remark-sign, .remark-way { font: .7rem/1.3 system-ui, \"Liberation Sans\", sans-serif; padding: 0 .3em; border-radius: 3px; color: var(--focus); border-color: var(--focus); }
+.remark-sign.done { color: var(--soft); border-color: var(--soft); border-style: dashed; }
+.remark-sign { margin: 0 .1em; }
+::highlight(remark) { background: color-mix(in srgb, var(--focus) 22%, var(--paper)); }
+.remark-box { display: inline-block; width: 100%; margin: .3rem 0; padding: .5rem .8rem; border: 1px solid var(--focus); border-radius: 5px; background: var(--paper); color: var(--ink); font: .85rem/1.45 system-ui, \"Liberation Sans\", sans-serif; white-space: normal; cursor: default; }
+.remark-said { display: block; overflow-wrap: anywhere; }
+.remark-said.answer { padding-inline-start: 1em; border-inline-start: 2px solid var(--rule); }
+.remark-text { color: var(--ink); }
+.remark-own { display: block; font: .85rem/1.5 system-ui, \"Liberation Sans\", sans-serif; color: var(--soft); }
+.orphans ul { margin: 0; padding-inline-start: 1.2em; font: .9rem/1.5 system-ui, \"Liberation Sans\", sans-serif; }
+li .remarks { margin: .2rem 0; }
+li .remarks > summary { font-weight: 600; }
+li .remarks p { padding-inline-start: .6em; border-inline-start: 3px solid var(--focus); }
 
 /* changes in it: each has its own direction */
 ins, del, bdi { unicode-bidi: isolate; }
@@ -190,6 +209,15 @@ li :is(.clause, .place) { display: inline-block; margin-inline-end: .8em; }
 .buttons [aria-pressed=\"true\"] { background: var(--soft); border-color: var(--soft); color: var(--paper); }
 .buttons [value=\"accept\"][aria-pressed=\"true\"] { background: var(--yes); border-color: var(--yes); }
 .buttons [value=\"reject\"][aria-pressed=\"true\"] { background: var(--no); border-color: var(--no); }
+/* the row of an edit, and the rows of its changes */
+aside > ol > .edit { border-left-style: double; }
+aside > ol > .of-edit { padding-left: 2.2rem; background: color-mix(in srgb, var(--soft) 6%, transparent); }
+.differing { font-weight: 600; color: var(--no); }
+.differing:empty { display: none; }
+.buttons .open-edit { margin-inline-start: auto; text-transform: none; white-space: nowrap; }
+.open-edit::before { content: \"\\25b8  \"; }
+.open-edit[aria-expanded=\"true\"]::before { content: \"\\25be  \"; }
+.buttons [aria-pressed=\"mixed\"] { background: repeating-linear-gradient(135deg, var(--paper) 0 4px, var(--rule) 4px 6px); }
 
 /* questions, the summary and the help */
 dialog { width: min(44rem, calc(100vw - 2rem)); max-height: calc(100dvh - 2rem); padding: 0; border: 1px solid var(--soft); border-radius: 8px; background: var(--paper); color: var(--ink); font-size: .95rem; box-shadow: 0 .5rem 2rem rgb(0 0 0 / .3); }
@@ -279,7 +307,7 @@ const main = document.querySelector(\"main\");
 const aside = document.querySelector(\"aside\");
 const list = aside.querySelector(\"ol\");
 const rows = Array.from(list.children);
-const sequences = new Map(Array.from(aside.querySelectorAll(\"ul > li\"), (it) => [it.textContent, Number(it.dataset.sequence)]));
+const sequences = new Map(Array.from(aside.querySelectorAll(\":scope > ul:not([class]) > li\"), (it) => [it.textContent, Number(it.dataset.sequence)]));
 // The greatest sequence number, and the most bytes of a journal.
 const LARGEST = 4294967295;
 const LARGEST_JOURNAL = 67108864;
@@ -298,6 +326,14 @@ function make(name, properties = {}, ...inside) {
   }
   made.append(...inside);
   return made;
+}
+
+// The items of the lists that came for this script alone, which are taken out of the page: those of each list with its part.
+function takenItems(selector) {
+  return Array.from(aside.querySelectorAll(\":scope > \" + selector), (it) => {
+    it.remove();
+    return Object.assign(Array.from(it.children), { part: it.dataset.part });
+  });
 }
 
 function labelled(text, field) {
@@ -327,10 +363,226 @@ const clausesOf = rows.map((row) => saidIn(row, \"clause\"));
 const placeNames = rows.map((row) => saidIn(row, \"place\"));
 const changesOf = rows.map((row) => saidIn(row, \"changed\"));
 
+// The places of the changes that hold text which is hidden, stand in such text, or make a text hidden or seen.
+const isHiddenAt = new Set();
+for (const it of main.querySelectorAll(\".hidden\")) for (const at of changesRound(it)) isHiddenAt.add(at);
+changesOf.forEach((said, at) => /(^|; )hidden: /.test(said) && isHiddenAt.add(at));
+
+// The places of the changes that hold an element, or that stand in it.
+function changesRound(element) {
+  const found = Array.from(element.querySelectorAll(\"[data-revision]\"));
+  for (let it = element.parentElement; it && it !== main; it = it.parentElement) {
+    if (it.matches(\"ins.text, del.text\")) found.push(it);
+    // (a change of the text's format that stands in a paragraph itself is of other text, or of the paragraph's end)
+    if (it.matches(\"p, .p, td\")) found.push(...Array.from(it.querySelectorAll(\":scope > :is(.props, .cell)\")).filter((of) => kindsOf[of.dataset.revision - 1] !== \"run-props\"));
+    if (it.matches(\"tr\")) found.push(...it.querySelectorAll(\":scope > .edge > *\"));
+    if (it.matches(\"table\")) found.push(...it.querySelectorAll(\":scope > caption > .props\"));
+  }
+  return found.map((it) => Number(it.dataset.revision) - 1);
+}
+
 // What a row says in an element of this class, or nothing.
 function saidIn(row, name) {
   for (const it of row.children) if (it.className === name) return it.textContent;
   return \"\";
+}
+
+// Edits: changes that were one act are one row of the list, with one decision. It opens to its single changes, which are decided,
+// undone, filtered and counted one by one as ever.
+
+const together = make(\"input\", { type: \"checkbox\", id: \"together\", checked: true });
+// The places of each edit of several changes, by the place of each of them.
+const editAt = rows.map(() => null);
+const opened = new Set();
+const editRows = new Map();
+
+for (const edit of gatheredBy(rows.map((row) => row.dataset.edit))) if (edit.length > 1) for (const at of edit) editAt[at] = edit;
+
+// Places with one value, together.
+function gatheredBy(values) {
+  const found = new Map();
+  values.forEach((value, at) => {
+    if (value === undefined) return;
+    if (found.has(value)) found.get(value).push(at);
+    else found.set(value, [at]);
+  });
+  return found.values();
+}
+
+// Lines of the list: the place of a change that has its own row, and for the row of an edit the complement of its first place.
+
+function isEditLine(line) {
+  return line < 0;
+}
+
+// The lines for these places, which ascend: an edit of which several changes are shown is one, and those of an open one follow it.
+function linesFor(places) {
+  if (!together.checked) return places;
+  const lines = [];
+  const met = new Set();
+  for (const at of places) {
+    const edit = editAt[at];
+    if (!edit) lines.push(at);
+    if (!edit || met.has(edit)) continue;
+    met.add(edit);
+    const shown = edit.filter(isShown);
+    if (shown.length > 1) lines.push(~edit[0]);
+    if (shown.length === 1 || opened.has(edit)) for (const it of shown) lines.push(it);
+  }
+  return lines;
+}
+
+// The places of a line: of an edit those that the filter leaves.
+function placesOfLine(line) {
+  return isEditLine(line) ? editAt[~line].filter(isShown) : [line];
+}
+
+function rowOfLine(line) {
+  if (!isEditLine(line)) return rows[line];
+  if (!editRows.has(~line)) editRows.set(~line, make(\"li\", { id: \"edit-\" + (~line + 1), className: \"edit\" }));
+  return editRows.get(~line);
+}
+
+function lineOfRow(row) {
+  return row.matches(\".edit\") ? ~(Number(row.id.slice(\"edit-\".length)) - 1) : numberOf(row) - 1;
+}
+
+// The line in which a change is shown now.
+function lineAt(at) {
+  const edit = together.checked ? editAt[at] : null;
+  return edit && !opened.has(edit) && edit.filter(isShown).length > 1 ? ~edit[0] : at;
+}
+
+function isOpenLine(line) {
+  return isEditLine(line) && opened.has(editAt[~line]);
+}
+
+// Whether a line has a change of which this holds. Those of an open edit have lines of their own.
+function lineHolds(line, holds) {
+  return isEditLine(line) ? !isOpenLine(line) && placesOfLine(line).some(holds) : holds(line);
+}
+
+// The line of the edit that a row is of, or that of its change where that is one by itself.
+function editLineOf(row) {
+  const line = lineOfRow(row);
+  return isEditLine(line) || !editAt[line] || !lineIndex.has(~editAt[line][0]) ? line : ~editAt[line][0];
+}
+
+// Opens an edit, or closes it.
+function openLine(line) {
+  if (!isEditLine(line)) return tell(\"Change \" + (line + 1) + \" stands by itself.\");
+  const edit = editAt[~line];
+  if (!opened.delete(edit)) opened.add(edit);
+  showAnew();
+  if (current) current.focus({ preventScroll: true });
+}
+
+// Chooses a change in its own row: an edit that is closed is opened for it.
+function chooseChange(at) {
+  if (isEditLine(lineAt(at))) openLine(lineAt(at));
+  choose(rows[at]);
+}
+
+// The row of an edit
+
+function fillEdit(row) {
+  if (row.hasAttribute(\"tabindex\")) return;
+  row.tabIndex = -1;
+  const line = lineOfRow(row);
+  const places = placesOfLine(line);
+  const [first] = places;
+  const { author, date } = rows[first].dataset;
+  row.dataset.author = author;
+  set(row, \"verdict\", places.every((at) => verdictsOf[at] === verdictsOf[first]) ? verdictsOf[first] : \"\");
+  row.replaceChildren(
+    make(\"p\", { className: \"head\" },
+      make(\"span\", {}, make(\"b\", { textContent: rangesInWords(places) }), \" \" + editInWords(places) + \" by \", whoOf(first), date === \"-\" ? \"\" : \", \" + date.slice(0, 10)),
+      make(\"span\", { className: \"verdict\", textContent: commonVerdict(places) })),
+    ...[[\"clause\", clausesOf], [\"place\", placeNames], [\"changed\", changesOf]].flatMap(([className, said]) =>
+      distinct(places.map((at) => said[at])).slice(0, className === \"changed\" ? 3 : 1).map((text) => make(\"p\", { className }, make(\"bdi\", { textContent: text })))),
+    excerptOf(places),
+    ...saysOnAll(places),
+    ...remarksInRow(places),
+    make(\"p\", { className: \"differing\" }),
+    make(\"div\", { className: \"buttons\", role: \"group\", ariaLabel: \"Edit of \" + places.length + \" changes\" },
+      ...(places.every((at) => lockedAt[at]) ? [] : Object.keys(LETTERS).map((value) => make(\"button\", { type: \"button\", value, textContent: value }))),
+      make(\"button\", { type: \"button\", className: \"open-edit\", ariaExpanded: String(isOpenLine(line)), textContent: many(places.length, \"change\") })));
+  pressEdit(row);
+}
+
+function distinct(texts) {
+  return Array.from(new Set(texts)).filter((it) => it);
+}
+
+// Numbers as ranges, a few at most.
+function rangesInWords(places) {
+  const ranges = [];
+  for (const at of places) {
+    const last = ranges.at(-1);
+    if (last && last[1] === at) last[1] = at + 1;
+    else ranges.push([at + 1, at + 1]);
+  }
+  return ranges.slice(0, 3).map(([from, to]) => (from === to ? from : from + \"\\u2013\" + to)).join(\", \") + (ranges.length > 3 ? \" \\u2026\" : \"\");
+}
+
+// What an edit does, in words: a replacement, or how many there are of each kind.
+function editInWords(places) {
+  const kinds = counted(places.map((at) => kindsOf[at]));
+  if (kinds.length === 2 && kinds.every(([kind, count]) => count === 1 && (kind === \"ins\" || kind === \"del\"))) return \"replaced\";
+  return kinds.map(([kind, count]) => (count > 1 ? count + \" \\u00d7 \" : \"\") + KINDS[kind]).join(\", \");
+}
+
+function commonVerdict(places) {
+  const verdicts = distinct(places.map((at) => verdictsOf[at]));
+  return verdicts.length > 1 ? \"verdicts differ\" : verdicts[0] === \"open\" ? \"\" : DONE[verdicts[0]] || verdicts[0];
+}
+
+// What reviewers say in the journals of this page, each said once, with how many of the changes it is on.
+function saysOnAll(places) {
+  const said = places.flatMap((at) => saysOn(at).map((it) => JSON.stringify(it)));
+  return counted(said).map(([text, count]) => {
+    const { who, word, rank } = JSON.parse(text);
+    return make(\"p\", { \"data-word\": word }, isolated(who), \": \" + DONE[word] + (rank ? \" with rank \" + rank : \"\") + (count < places.length ? \" on \" + count + \" of \" + places.length : \"\"));
+  });
+}
+
+// Shows what is decided of an edit: on its buttons where it is one word, and in words where its changes differ.
+function pressEdit(row) {
+  if (!row.hasAttribute(\"tabindex\")) return;
+  const places = placesOfLine(lineOfRow(row)).filter((at) => !lockedAt[at]);
+  const found = new Map(counted(places.map((at) => words[at])));
+  const all = [...Object.keys(DONE), \"\"].filter((it) => found.has(it)).map((it) => [it, found.get(it)]);
+  for (const button of row.querySelectorAll(\"button[value]\")) {
+    const count = places.filter((at) => words[at] === button.value).length;
+    button.ariaPressed = count === 0 ? \"false\" : count === places.length ? \"true\" : \"mixed\";
+    if (button.value === \"withdraw\") button.disabled = !places.some((at) => words[at] === \"withdraw\" || hasEarlier(at));
+  }
+  set(row, \"say\", all.length === 1 ? all[0][0] : \"\");
+  const locked = placesOfLine(lineOfRow(row)).length - places.length;
+  row.querySelector(\".differing\").textContent =
+    (all.length > 1 ? \"Its changes differ: \" + all.map(([word, count]) => count + \" \" + (DONE[word] || \"not decided\")).join(\", \") + \".\" : \"\") +
+    (locked ? (all.length > 1 ? \" \" : \"\") + many(locked, \"change\") + \" locked.\" : \"\");
+}
+
+// What a button or a key does with an edit: its word on all that isn't decided, or, where all is decided, on all; none where all have
+// that word already. Where words that differ would be replaced the reviewer is asked.
+async function decideEdit(row, word) {
+  const line = lineOfRow(row);
+  const name = \"Edit \" + rangesInWords(placesOfLine(line));
+  if (!lineIndex.has(line)) return tell(\"This edit is hidden by the filter: the key j goes to the next one.\");
+  const open = placesOfLine(line).filter((at) => !lockedAt[at]);
+  if (!open.length) return tell(name + \" is locked.\");
+  const places = word === \"withdraw\" ? open.filter((at) => words[at] === word || hasEarlier(at)) : open;
+  if (!places.length) return tell(nothingToWithdraw(name));
+  const isTaken = places.every((at) => words[at] === word);
+  const undecided = places.filter((at) => !words[at]);
+  const other = places.filter((at) => words[at] && words[at] !== word);
+  if (!undecided.length && new Set(places.map((at) => words[at])).size > 1 && (await askToReplace(word, other, [])) !== \"all\") return tell(\"Nothing was changed.\");
+  const next = isTaken ? \"\" : word;
+  const chosen = undecided.length ? undecided : isTaken ? places : other;
+  act(\"edit of \" + chosen.length + \" \" + (DONE[next] || \"not decided\"), chosen.map((at) => [at, next]));
+  tell(name + \": \" + many(chosen.length, \"change\") + \" \" + (DONE[next] || \"not decided\") + \".\" + (undecided.length && undecided.length < places.length ? \" The others keep their words.\" : \"\"));
+  if (next && advance.checked) goOn(line);
 }
 
 // The bars around the document and the list: what a reviewer presses and types in, and what they are told.
@@ -351,13 +603,13 @@ const [acceptAll, rejectAll] = [\"accept-all\", \"reject-all\"].map((id) => make
 
 function build() {
   person.setAttribute(\"list\", \"known\");
-  const short = [[\"j\", \"next\"], [\"k\", \"back\"], [\"a\", \"accept\"], [\"r\", \"reject\"], [\"?\", \"help\"]];
+  const short = [[\"j\", \"next\"], [\"k\", \"back\"], [\"a\", \"accept\"], [\"r\", \"reject\"], [\"e\", \"open edit\"], [\"?\", \"help\"]];
   document.body.prepend(make(\"header\", {}, make(\"h1\", {}, ...(title ? [isolated(title), \": changes to decide\"] : [\"Changes to decide\"])), tally, views, openButton, help),
     make(\"p\", { id: \"printed\" }));
   aside.prepend(make(\"div\", { className: \"sign\" }, labelled(\"Your name\", person), known, save, file),
     make(\"div\", { className: \"told\" }, line, undo),
     make(\"details\", { className: \"choose\", open: innerWidth > 960 }, make(\"summary\", { textContent: \"Filter, and decide all that is left\" }),
-      make(\"div\", { className: \"filter\" }, labelled(\"Author\", authors), labelled(\"Kind\", kinds), labelled(\"State\", states), labelled(\"Search\", search), labelled(\"Go on by itself\", advance), acceptAll, rejectAll)),
+      make(\"div\", { className: \"filter\" }, labelled(\"Author\", authors), labelled(\"Kind\", kinds), labelled(\"State\", states), labelled(\"Search\", search), labelled(\"Go on by itself\", advance), labelled(\"Edits as one row\", together), acceptAll, rejectAll)),
     make(\"p\", { className: \"keys\" }, ...short.flatMap(([key, text]) => [make(\"kbd\", { textContent: key }), \" \" + text + \" \"])));
   offerFilters();
   main.setAttribute(\"aria-label\", \"Document\");
@@ -513,6 +765,7 @@ function seeAs(view) {
     seeLists(withLists);
   }
   captionView();
+  seeNumbers();
 }
 
 // The element whose lists a change may change.
@@ -615,20 +868,24 @@ function captionView() {
   const some = [open ? open + \" open\" : \"\", disputed ? disputed + \" disputed\" : \"\"].filter(Boolean).join(\" and \");
   viewLine.textContent = !text ? \"\" : text + \". \" + (some ? \"Tinted: \" + some + \", shown as \" + rest + \".\" : \"All is decided.\") +
     (!text || main.querySelector(\"[data-story]\") ? \"\" : \" Around content controls paragraphs may be joined otherwise.\") +
-    (main.querySelector(\".doubt\") ? \" Where it isn't known whether an empty paragraph stays, it says so.\" : \"\");
+    (main.querySelector(\".doubt\") ? \" Where it isn't known whether an empty paragraph stays, it says so.\" : \"\") +
+    (!text || isCounting ? \"\" : \" The numbers of clauses are shown with marks alone.\");
 }
 
 // The document: its stories, its headings, and where a change is in it.
 
 // What is far from sight costs nothing: of a long story so many blocks are a group, and of a long table so many rows.
 const FAR = 100;
-const STORIES = { hdr: \"Header\", ftr: \"Footer\", footnotes: \"Footnotes\", endnotes: \"Endnotes\", comments: \"Comments\" };
 
 // It is taken out of the page for that: a browser looks at all that follows a block that is moved.
 function arrange() {
   document.querySelector(\"header\").append(viewLine);
   const { scrollTop, nextSibling } = main;
   main.remove();
+  readNumbers();
+  linkNotes();
+  showImages();
+  placeRemarks();
   for (const it of main.querySelectorAll('[data-style^=\"Heading\"], [data-style=\"Title\"]')) head(it);
   nameStories();
   for (const edge of Array.from(main.querySelectorAll(\"td.edge\"))) bringIn(edge);
@@ -673,27 +930,19 @@ function groupRows(body) {
   }
 }
 
-// The document comes first. The other stories are behind it, each with what it is as its heading.
+// Of several stories of one sort the heading of each has its number, and the name of its part is at hand.
 function nameStories() {
   const stories = Array.from(main.querySelectorAll(\":scope > [data-story]\"));
-  const counts = {};
-  for (const { dataset } of stories) counts[dataset.story] = (counts[dataset.story] || 0) + 1;
+  const counts = new Map(counted(stories.map((it) => it.dataset.story)));
   const named = {};
   for (const story of stories) {
     const sort = story.dataset.story;
     named[sort] = (named[sort] || 0) + 1;
-    if (STORIES[sort]) main.append(story);
-    headStory(story, STORIES[sort], counts[sort] > 1 ? \" \" + named[sort] : \"\");
+    const title = story.querySelector(\":scope > h2\");
+    if (!title) continue;
+    title.title = story.dataset.part;
+    if (sort !== \"document\" && counts.get(sort) > 1) title.append(\" \" + named[sort]);
   }
-}
-
-// Its heading was the name of its part, which stays at hand; the first story has none, and the document needs none.
-function headStory(story, words, count) {
-  const title = story.querySelector(\":scope > h2\");
-  if (words) {
-    if (!title) story.prepend(make(\"h2\", { textContent: words + count }));
-    else Object.assign(title, { title: title.textContent, textContent: words + count });
-  } else if (title && story === main.querySelector(':scope > [data-story=\"document\"]')) title.remove();
 }
 
 // A paragraph with the style of a heading is one.
@@ -716,8 +965,9 @@ function placeOf(member) {
 
 let places = null;
 
+// The elements of the change of a row, or of those of an edit.
 function placesOf(row) {
-  return placesAt(numberOf(row) - 1);
+  return placesOfLine(lineOfRow(row)).flatMap(placesAt);
 }
 
 // The elements of the change at a place.
@@ -743,6 +993,386 @@ function showPlace(row) {
   while (seen !== main && !seen.getClientRects().length) seen = seen.previousElementSibling || seen.parentElement;
   if (seen !== main) seen.scrollIntoView({ block: \"center\" });
 }
+
+// Clause numbers before paragraphs: with marks those with which the page came, and in the other views the same counting over the
+// paragraphs that are left.
+
+// The greatest length of a number, in bytes.
+const LONGEST_NUMBER = 200;
+const LEVELS = 9;
+const ROMAN = [[\"M\", 1000], [\"CM\", 900], [\"D\", 500], [\"CD\", 400], [\"C\", 100], [\"XC\", 90], [\"L\", 50], [\"XL\", 40], [\"X\", 10], [\"IX\", 9], [\"V\", 5], [\"IV\", 4], [\"I\", 1]];
+const NO_LEVEL = { list: \"\", start: 0, again: false, restart: null, format: \"decimal\", width: 0, isLegal: false, hasPicture: false, text: \"\" };
+
+// The paragraphs with a number: each with its num, its level and its text, and whether a section ends with it.
+let numbered = [];
+const levels = new Map();
+// Whether counting here comes to the numbers with which the page came; else there are none but those.
+let isCounting = true;
+let numbering = 0;
+
+function readNumbers() {
+  for (const { dataset, textContent } of takenItems(\"ol.levels\").flat())
+    levels.set(dataset.num + \" \" + dataset.level, {
+      list: dataset.list, start: Number(dataset.start), again: \"again\" in dataset, restart: \"restart\" in dataset ? Number(dataset.restart) : null,
+      format: dataset.format, width: Number(dataset.width || 0), isLegal: \"legal\" in dataset, hasPicture: \"picture\" in dataset, text: textContent,
+    });
+  const stories = Array.from(main.querySelectorAll(\":scope > [data-story]\"));
+  for (const items of takenItems(\"ol.numbers\")) {
+    while (stories.length && stories[0].dataset.part !== items.part) stories.shift();
+    const paragraphs = stories.length ? stories.shift().querySelectorAll(PARAGRAPH) : [];
+    for (const { dataset, textContent } of items) {
+      const paragraph = paragraphs[dataset.paragraph - 1];
+      if (paragraph) numbered.push({ paragraph, num: dataset.num, level: Number(dataset.level), isEnd: \"section\" in dataset, text: textContent });
+    }
+  }
+  isCounting = numbersOf(numbered).every((text, place) => text === numbered[place].text);
+  seeNumbers();
+}
+
+function levelAt(num, level) {
+  return levels.get(num + \" \" + level) || NO_LEVEL;
+}
+
+// The counting
+
+// The numbers of paragraphs, counted in this order. Each text box counts by itself.
+function numbersOf(items) {
+  const states = new Map();
+  return items.map(({ paragraph, num, level }) => {
+    const around = paragraph.parentElement.closest(\".box, section\");
+    if (!states.has(around)) states.set(around, { values: new Map(), met: new Set() });
+    return numberText(num, level, valuesAfter(states.get(around), num, level));
+  });
+}
+
+// The values of a list after a paragraph with this num and level.
+function valuesAfter({ values, met }, num, level) {
+  const { list } = levelAt(num, level);
+  if (!values.has(list)) values.set(list, new Array(LEVELS).fill(null));
+  const now = values.get(list);
+  for (let at = 0; at <= level; at += 1) {
+    if (!met.has(num + \" \" + at) && levelAt(num, at).again) now.fill(null, at);
+    met.add(num + \" \" + at);
+  }
+  for (let at = 0; at < level; at += 1) if (now[at] === null) now[at] = levelAt(num, at).start;
+  now[level] = now[level] === null ? levelAt(num, level).start : now[level] + 1;
+  for (let at = level + 1; at < LEVELS; at += 1) if (!stays(levelAt(num, at).restart, at, level)) now[at] = null;
+  return now;
+}
+
+// Whether a deeper level goes on after a paragraph of this level.
+function stays(restart, at, level) {
+  return restart === 0 || (restart !== null && restart >= 1 && restart <= at && restart <= level);
+}
+
+// The texts of numbers
+
+function numberText(num, level, values) {
+  const { format, isLegal, hasPicture, text } = levelAt(num, level);
+  if (format === \"bullet\") return text ? text.replace(/[\\ue000-\\uf8ff]/g, \"\\u2022\") : hasPicture ? \"\\u2022\" : \"\";
+  const made = text.replace(/%([1-9])/g, (_, digit) => {
+    const at = Number(digit) - 1;
+    if (at > level) return \"\";
+    const its = levelAt(num, at);
+    return numeral(isLegal && its.format !== \"none\" && its.format !== \"decimalZero\" ? { format: \"decimal\" } : its, values[at] || 0);
+  });
+  return bytesOf(made) > LONGEST_NUMBER ? \"\" : made;
+}
+
+function numeral({ format, width }, value) {
+  if (format === \"none\") return \"\";
+  if (value < 0) return String(value);
+  if (format === \"decimalZero\") return String(value).padStart(2, \"0\");
+  if (format === \"padded\") return String(value).padStart(width, \"0\");
+  if (format === \"ordinal\") return value + ordinalEnd(value);
+  if (/Roman$/.test(format) && value >= 1 && value <= 3999) return cased(format, roman(value));
+  if (/Letter$/.test(format) && value >= 1 && value <= 780) return cased(format, String.fromCharCode(65 + ((value - 1) % 26)).repeat(Math.floor((value - 1) / 26) + 1));
+  return String(value);
+}
+
+function cased(format, text) {
+  return format.startsWith(\"lower\") ? text.toLowerCase() : text;
+}
+
+function ordinalEnd(value) {
+  return Math.floor((value % 100) / 10) === 1 ? \"th\" : [\"th\", \"st\", \"nd\", \"rd\"][value % 10] || \"th\";
+}
+
+function roman(value) {
+  let [rest, text] = [value, \"\"];
+  for (const [letters, worth] of ROMAN) {
+    text += letters.repeat(Math.floor(rest / worth));
+    rest %= worth;
+  }
+  return text;
+}
+
+// What a view shows
+
+function numberSoon() {
+  if (!numbered.length) return;
+  clearTimeout(numbering);
+  numbering = setTimeout(seeNumbers, 30);
+}
+
+// Gives each paragraph its number in the view of now.
+function seeNumbers() {
+  clearTimeout(numbering);
+  if (viewNow() === \"marks\" || viewNow() === undefined) return numbered.forEach((it) => showNumber(it, it.text));
+  const left = isCounting ? leftNumbered(REST[viewNow()]) : [];
+  const texts = new Map(numbersOf(left).map((text, place) => [left[place], text]));
+  for (const it of numbered) showNumber(it, texts.get(it) || \"\");
+}
+
+// Joined paragraphs have the number of the last of them.
+function showNumber({ paragraph }, text) {
+  const joined = isElement(paragraph.parentElement, \".joined\") ? paragraph.parentElement : null;
+  if (!joined) set(paragraph, \"number\", spelled(text));
+  else if (joined.lastElementChild === paragraph) set(joined, \"number\", spelled(text));
+}
+
+// The paragraphs with a number that are left once all else is accepted, or rejected.
+function leftNumbered(rest) {
+  const [first, second] = passes(rest);
+  const isCut = (member) => cuts(member, first(member) || second(member));
+  return numbered.filter(({ paragraph, isEnd }) => {
+    const joined = paragraph.parentElement.closest(\".joined\");
+    if (paragraph.closest(\".gone\") || isInCut(paragraph, isCut)) return false;
+    if (joined && joined === paragraph.parentElement && joined.lastElementChild !== paragraph) return false;
+    return !isEnd || showsMore(joined || paragraph, isCut);
+  });
+}
+
+function isInCut(node, isCut) {
+  for (let it = node.parentElement.closest(\"ins.text, del.text\"); it; it = it.parentElement.closest(\"ins.text, del.text\")) if (isCut(it)) return true;
+  return false;
+}
+
+// Whether a paragraph shows more than its end.
+function showsMore(paragraph, isCut) {
+  const walker = document.createTreeWalker(paragraph, NodeFilter.SHOW_TEXT | NodeFilter.SHOW_ELEMENT);
+  for (let node = walker.nextNode(); node; node = walker.nextNode()) {
+    const isSeen = node.nodeType === Node.TEXT_NODE ? node.data !== \"\" && !node.parentElement.closest(\".mark, .props, .remark, a\") : isElement(node, \"br, .picture\");
+    if (isSeen && !isInCut(node, isCut)) return true;
+  }
+  return false;
+}
+
+// Notes: the sign of a note leads to its text, and from there back to where the note is named.
+
+const noteLinks = new Map();
+
+function linkNotes() {
+  const notes = new Map();
+  for (const [story, name] of [[\"footnotes\", \"Footnote\"], [\"endnotes\", \"Endnote\"]])
+    for (const it of main.querySelectorAll('[data-story=\"' + story + '\"] > sup:not(.remark)')) {
+      const sign = it.textContent;
+      // Of several notes with one sign it isn't known which is meant.
+      if (sign) notes.set(sign, notes.has(sign) ? null : { note: it, name: name + \" \" + sign });
+    }
+  for (const it of main.querySelectorAll('[data-story=\"document\"] sup:not(.remark)')) {
+    const { note, name } = notes.get(it.textContent) || {};
+    if (!note) continue;
+    leadTo(it, note, name);
+    if (!noteLinks.has(note)) leadTo(note, it, name + \", back to where it is named\");
+  }
+}
+
+function leadTo(sign, place, ariaLabel) {
+  noteLinks.set(sign, place);
+  Object.assign(sign, { tabIndex: 0, role: \"link\", ariaLabel, title: ariaLabel });
+}
+
+// Brings an element of the document into sight, and gives it the keyboard.
+function goToElement(place) {
+  for (let it = place.closest(\"details\"); it; it = it.parentElement.closest(\"details\")) it.open = true;
+  comeNear(partOf(place));
+  place.scrollIntoView({ block: \"center\" });
+  place.focus({ preventScroll: true });
+}
+
+// Pictures, in place of the word that stands for each.
+
+function showImages() {
+  const [images, leads] = [new Map(), new Map()];
+  for (const it of takenItems(\"ul.pictures\").flat()) {
+    const { part, embed, image } = it.dataset;
+    if (embed !== undefined) leads.set(part + \"\\n\" + embed, image);
+    else if (!images.has(image)) images.set(image, it.firstElementChild);
+  }
+  if (!images.size) return;
+  for (const story of main.querySelectorAll(\":scope > [data-part]\"))
+    for (const it of story.querySelectorAll(\".picture[data-embed]\")) {
+      const image = images.get(leads.get(story.dataset.part + \"\\n\" + it.dataset.embed));
+      if (image) showImage(it, image.cloneNode());
+    }
+}
+
+// What the word says of a picture is its text. Where it can't be shown the word comes back.
+function showImage(picture, image) {
+  const word = picture.firstChild;
+  if (!word || word.nodeType !== Node.TEXT_NODE) return;
+  image.alt = image.title = word.data.replace(/^picture(: )?/, \"\") || \"picture\";
+  image.addEventListener(\"error\", () => {
+    image.replaceWith(word);
+    picture.classList.remove(\"seen\");
+  });
+  word.replaceWith(image);
+  picture.classList.add(\"seen\");
+}
+
+// Comments: a sign at the place of each, which opens what was said there; the comments on a change in its row; and by themselves those
+// that are nowhere in the text.
+
+const remarks = takenItems(\"ul.remarks\").flat().map(({ dataset, textContent }, place) => ({
+  place, id: dataset.remark, who: dataset.author, date: dataset.date.slice(0, 10), reply: dataset.reply, isDone: dataset.done === \"yes\", text: textContent,
+}));
+const remarkById = new Map();
+for (const it of remarks) if (!remarkById.has(it.id)) remarkById.set(it.id, it);
+// The places of each comment in the text, by its id: where it begins and ends, and its sign.
+const remarkStarts = new Map();
+const remarkEnds = new Map();
+const remarkSigns = new Map();
+const threads = new Map();
+
+// The first comment of the thread of one.
+function threadRoot(remark) {
+  const met = new Set();
+  let root = remark;
+  while (root.reply !== undefined && remarkById.has(root.reply) && !met.has(root)) {
+    met.add(root);
+    root = remarkById.get(root.reply);
+  }
+  return root;
+}
+
+function placeRemarks() {
+  for (const it of remarks) {
+    const root = threadRoot(it);
+    threads.set(root, [...(threads.get(root) || []), it]);
+  }
+  for (const [selector, found] of [[\".remark-start\", remarkStarts], [\".remark-end\", remarkEnds], [\"sup.remark\", remarkSigns]])
+    for (const it of main.querySelectorAll(selector + \"[data-remark]\"))
+      if (remarkById.has(it.dataset.remark) && !found.has(it.dataset.remark)) found.set(it.dataset.remark, it);
+  for (const it of remarks) if (remarkById.get(it.id) === it) signRemark(it);
+  for (const it of main.querySelectorAll(\".remark-own[data-remark]\")) if (remarkById.has(it.dataset.remark)) it.append(...headOfRemark(remarkById.get(it.dataset.remark)), ...wayTo(remarkById.get(it.dataset.remark)));
+  listOrphans();
+}
+
+function isPlaced({ id }) {
+  return remarkStarts.has(id) || remarkEnds.has(id) || remarkSigns.has(id);
+}
+
+// A comment whose range is there and whose reference isn't gets a sign at its end. An answer has none of its own where what it answers
+// has one.
+function signRemark(remark) {
+  if (!isPlaced(remark)) return;
+  const root = threadRoot(remark);
+  if (root !== remark && isPlaced(root)) return;
+  if (!remarkSigns.has(remark.id)) {
+    const made = make(\"sup\", { className: \"remark\" });
+    (remarkEnds.get(remark.id) || remarkStarts.get(remark.id)).after(made);
+    remarkSigns.set(remark.id, made);
+  }
+  const said = threadOf(remark).map(remarkInWords).join(\"; \");
+  const button = make(\"button\", { type: \"button\", className: \"remark-sign\", value: remark.place, textContent: \"c\" + (remark.place + 1), ariaExpanded: \"false\", ariaLabel: said, title: said });
+  if (threadOf(remark).every((it) => it.isDone)) button.classList.add(\"done\");
+  remarkSigns.get(remark.id).append(button);
+}
+
+// A comment with the answers to it, in their order.
+function threadOf(remark) {
+  return threads.get(threadRoot(remark)) || [remark];
+}
+
+// Words
+
+function remarkInWords(remark) {
+  const name = remark.reply === undefined ? \"Comment \" + (remark.place + 1) : \"Answer\";
+  return name + \" by \" + (spelled(remark.who) || \"no name\") + (remark.date ? \", \" + remark.date : \"\") + (remark.isDone ? \", done\" : \"\") + \": \" + spelled(remark.text);
+}
+
+function headOfRemark(remark) {
+  const answered = remarkById.get(remark.reply);
+  return [\"Comment \" + (remark.place + 1) + \" by \", make(\"strong\", {}, isolated(remark.who)), (remark.date ? \", \" + remark.date : \"\") + (remark.isDone ? \", done\" : \"\") +
+    (answered ? \", an answer to comment \" + (answered.place + 1) : \"\")];
+}
+
+function shownRemark(remark) {
+  return make(\"span\", { className: \"remark-said\" + (remark.reply === undefined ? \"\" : \" answer\") + (remark.isDone ? \" done\" : \"\") },
+    ...headOfRemark(remark), \": \", make(\"span\", { className: \"remark-text\" }, ...signed(remark.text)));
+}
+
+// A button that leads to the sign of a comment, where it has one.
+function wayTo(remark) {
+  const root = isPlaced(threadRoot(remark)) ? threadRoot(remark) : remark;
+  if (!isPlaced(root)) return [];
+  return [\" \", make(\"button\", { type: \"button\", className: \"remark-way\", value: root.place, textContent: \"show its place\", ariaLabel: \"Show the place of comment \" + (remark.place + 1) })];
+}
+
+// What is pressed
+
+function openRemark(button) {
+  const isOpen = button.ariaExpanded === \"true\";
+  closeRemarks();
+  if (isOpen) return;
+  button.ariaExpanded = \"true\";
+  button.after(make(\"span\", { className: \"remark-box\", role: \"group\", ariaLabel: \"Comment\" }, ...threadOf(remarks[button.value]).map(shownRemark)));
+}
+
+function closeRemarks() {
+  for (const it of main.querySelectorAll(\".remark-box\")) it.remove();
+  for (const it of main.querySelectorAll(\".remark-sign[aria-expanded=true]\")) it.ariaExpanded = \"false\";
+}
+
+function goToRemark(button) {
+  const sign = remarkSigns.get(remarks[button.value].id).querySelector(\"button\");
+  goToElement(sign);
+  if (sign.ariaExpanded === \"false\") openRemark(sign);
+}
+
+// What a comment is on is tinted while its sign has the keyboard, where the browser can tint a range.
+function tintRemark(button) {
+  if (!window.Highlight) return;
+  const { id } = remarks[button.value] || {};
+  const [start, end] = [remarkStarts.get(id), remarkEnds.get(id)];
+  CSS.highlights.delete(\"remark\");
+  if (!start || !end) return;
+  const range = new Range();
+  range.setStartAfter(start);
+  range.setEndBefore(end);
+  if (!range.collapsed) CSS.highlights.set(\"remark\", new Highlight(range));
+}
+
+function clearTint() {
+  if (window.Highlight) CSS.highlights.delete(\"remark\");
+}
+
+// The comments on changes
+
+// The threads that are on the changes at these places, each by its first comment.
+function threadsOn(places) {
+  const ids = new Set(places.flatMap((at) => (rows[at].dataset.remarks || \"\").split(\" \")));
+  return Array.from(new Set(Array.from(ids).filter((it) => remarkById.has(it)).map((it) => threadRoot(remarkById.get(it)))));
+}
+
+function remarksInRow(places) {
+  const found = threadsOn(places);
+  if (!found.length) return [];
+  const all = found.flatMap(threadOf);
+  return [make(\"details\", { className: \"remarks\", open: !all.every((it) => it.isDone) }, make(\"summary\", { textContent: many(all.length, \"comment\") + (all.every((it) => it.isDone) ? \", done\" : \"\") }),
+    ...found.map((root) => make(\"p\", {}, ...threadOf(root).map(shownRemark), ...wayTo(root))))];
+}
+
+function listOrphans() {
+  const orphans = remarks.filter((it) => !threadOf(it).some(isPlaced));
+  if (!orphans.length) return;
+  main.append(make(\"section\", { className: \"orphans\" }, make(\"h2\", { textContent: \"Comments that are nowhere in the text\" }),
+    make(\"ul\", {}, ...orphans.map((it) => make(\"li\", {}, shownRemark(it))))));
+}
+
+main.addEventListener(\"focusin\", ({ target }) => target.matches(\".remark-sign\") && tintRemark(target));
+main.addEventListener(\"focusout\", clearTint);
 
 // What a part of the document gets once it is nearly seen: signs for what can't be seen, and what a screen reader is told.
 
@@ -772,7 +1402,8 @@ function wordsOfChange(at) {
   const { date } = rows[at].dataset;
   const kind = KINDS[kindsOf[at]] + (changesOf[at] && \" (\" + spelled(changesOf[at]) + \")\");
   const where = [clausesOf[at], placeNames[at]].filter((it) => it).map((it) => \", \" + spelled(it)).join(\"\");
-  return \"Change \" + (at + 1) + where + \": \" + kind + \" by \" + spelled(authorsOf[at] || \"no name\") + (date === \"-\" ? \"\" : \", \" + date.slice(0, 10));
+  const said = threadsOn([at]).flatMap(threadOf).length;
+  return \"Change \" + (at + 1) + where + \": \" + kind + \" by \" + spelled(authorsOf[at] || \"no name\") + (date === \"-\" ? \"\" : \", \" + date.slice(0, 10)) + (said ? \", \" + many(said, \"comment\") : \"\");
 }
 
 // The parts of the document: the groups of a long story, and the other stories. What is near sight is dressed, and shows words
@@ -848,6 +1479,7 @@ function catchUpSome() {
 // What is printed, and what is copied, is all as it is now.
 function seeAll() {
   Array.from(behind, catchUp);
+  seeNumbers();
   followSoon();
 }
 
@@ -923,10 +1555,10 @@ function wholeOf(place) {
   return place.matches(\"caption > .props\") ? place.closest(\"table\") : null;
 }
 
-// What a change is about: its own words between those around it, or the texts of its row, cell or table.
-function excerpt(row) {
-  const found = placesOf(row);
-  const place = found.find((it) => it.matches(\"del, ins\")) || found[0];
+// What changes are about: their own words between those around them, or the texts of a row, a cell or a table.
+function excerptOf(changes) {
+  const found = changes.slice(0, 100).flatMap(placesAt);
+  const place = found.find((it) => it.matches(\".row\")) || found.find((it) => it.matches(\"del.text, ins.text\")) || found.find((it) => it.matches(\"del, ins\")) || found[0];
   const made = make(\"p\", { className: \"words\" });
   if (!place) return made;
   const whole = wholeOf(place);
@@ -939,9 +1571,15 @@ function excerpt(row) {
   }
   const [before, inside, after] = piecesAround(place);
   const words = textOf(inside).trim() ? cutPieces(inside, 120).map((it) => (it.change === place ? { ...it, change: null } : it)) : [{ text: sign }];
-  made.append(...cutPieces(before, 32, true).map(shownPiece),
+  const own = new Set(changes.map((at) => String(at + 1)));
+  const shown = (pieces) => pieces.map((it) => {
+    const piece = shownPiece(it);
+    if (it.change && own.has(it.change.dataset.revision)) piece.classList.add(\"own\");
+    return piece;
+  });
+  made.append(...shown(cutPieces(before, 32, true)),
     make(place.localName, { className: \"own\" }, ...words.map(shownPiece)),
-    ...cutPieces(after, 32).map(shownPiece));
+    ...shown(cutPieces(after, changes.length > 1 ? 90 : 32)));
   return made;
 }
 
@@ -950,13 +1588,14 @@ function cut(text, length) {
 }
 
 // The list of changes. It holds the rows near sight alone, in the place of all that a filter leaves, with room for the rest
-// above and below.
+// above and below. A row is that of a change, or of an edit.
 
 const HELD = 160;
 const room = [make(\"li\", { className: \"room\", role: \"none\" }), make(\"li\", { className: \"room\", role: \"none\" })];
 
-// The places that are shown, whether a place is, and which of the shown ones are held.
-let shownAt = [];
+// The lines of the list for the places that are shown, where each is, whether a place is shown, and which lines are held.
+let lines = [];
+const lineIndex = new Map();
 let isShownAt = new Uint8Array(rows.length);
 let held = { first: 0, end: 0 };
 let rowHeight = 120;
@@ -976,10 +1615,10 @@ function fill(row) {
       make(\"span\", {}, make(\"b\", { textContent: at + 1 }), \" \" + KINDS[kindsOf[at]] + \" by \", whoOf(at), date === \"-\" ? \"\" : \", \" + date.slice(0, 10)),
       make(\"span\", { className: \"verdict\", textContent: verdict === \"open\" ? \"\" : DONE[verdict] || verdict })),
     ...row.querySelectorAll(\":scope > :is(.clause, .place)\"),
-    excerpt(row));
+    excerptOf([at]));
   const said = saysOn(at);
   row.querySelectorAll(\":scope > p[data-word]\").forEach((it, place) => nameApart(it, said[place].who));
-  row.append(lockedAt[at] ? make(\"p\", { className: \"locked\", textContent: \"Locked: this change can't be decided here.\" }) :
+  row.append(...remarksInRow([at]), lockedAt[at] ? make(\"p\", { className: \"locked\", textContent: \"Locked: this change can't be decided here.\" }) :
     make(\"div\", { className: \"buttons\", role: \"group\", ariaLabel: \"Change \" + (at + 1) },
       ...Object.keys(LETTERS).map((value) => make(\"button\", { type: \"button\", value, textContent: value }))));
   press(row);
@@ -1008,6 +1647,7 @@ function press(row) {
 
 function pressAll() {
   rows.forEach(press);
+  for (const it of editRows.values()) pressEdit(it);
 }
 
 // Which rows are shown
@@ -1016,49 +1656,44 @@ function isShown(at) {
   return isShownAt[at] === 1;
 }
 
-// The next place that is shown, or -1.
-function nextShown(at, by) {
-  let next = at + by;
-  while (next >= 0 && next < rows.length && !isShown(next)) next += by;
-  return rows[next] ? next : -1;
-}
-
 // Shows the rows at these places, which ascend, and no others. The list stays at the change that is chosen.
 function showRows(places) {
-  shownAt = Array.from(places);
   isShownAt = new Uint8Array(rows.length);
-  for (const at of shownAt) isShownAt[at] = 1;
-  const from = current && isShown(numberOf(current) - 1) ? indexOf(current) : 0;
+  for (const at of places) isShownAt[at] = 1;
+  makeLines(places);
+  const from = current && lineIndex.has(lineOfRow(current)) ? lineIndex.get(lineOfRow(current)) : 0;
   hold(from);
   list.scrollTop = 0;
   if (from) current.scrollIntoView({ block: \"center\" });
 }
 
-// How many of the shown rows come before a row.
-function indexOf(row) {
-  const at = numberOf(row) - 1;
-  let [low, high] = [0, shownAt.length];
-  while (low < high) {
-    const middle = (low + high) >> 1;
-    if (shownAt[middle] < at) low = middle + 1;
-    else high = middle;
-  }
-  return low;
+function makeLines(places) {
+  lines = Array.from(linesFor(places));
+  lineIndex.clear();
+  lines.forEach((line, index) => lineIndex.set(line, index));
+  for (const it of editRows.values()) it.removeAttribute(\"tabindex\");
+  followCurrent();
+}
+
+// Shows the same changes, where an edit was opened or closed, or edits have rows now or none.
+function showAnew() {
+  makeLines(allPlaces().filter(isShown));
+  hold(current && lineIndex.has(lineOfRow(current)) ? lineIndex.get(lineOfRow(current)) : held.first + HELD / 2);
 }
 
 // Holds the rows around one of the shown, and keeps in place what is seen of them.
 function hold(index) {
-  const first = Math.max(0, Math.min(index - HELD / 2, shownAt.length - HELD));
-  const end = Math.min(shownAt.length, first + HELD);
-  const wanted = shownAt.slice(first, end).map((at) => rows[at]);
+  const first = Math.max(0, Math.min(index - HELD / 2, lines.length - HELD));
+  const end = Math.min(lines.length, first + HELD);
+  const wanted = lines.slice(first, end).map(rowOfLine);
   const kept = new Set(wanted);
   const seen = Array.from(list.children).find((it) => kept.has(it) && it.offsetTop + it.offsetHeight > list.scrollTop);
   const before = seen ? seen.getBoundingClientRect().top : 0;
-  wanted.forEach(fill);
+  wanted.forEach((row, place) => fillLine(row, lines[first + place]));
   for (const row of Array.from(list.children)) if (!kept.has(row) && !room.includes(row)) row.remove();
   let next = room[1].parentNode ? room[1] : null;
   for (const row of wanted.reverse()) {
-    if (row.parentNode !== list) list.insertBefore(row, next);
+    if (row.parentNode !== list || row.nextSibling !== next) list.insertBefore(row, next);
     next = row;
   }
   held = { first, end };
@@ -1069,35 +1704,41 @@ function hold(index) {
 // Gives the rows that aren't held their room, as high as those that are.
 function measure() {
   const count = held.end - held.first;
-  if (count === shownAt.length) return room.forEach((it) => it.remove());
-  const [first, last] = [rows[shownAt[held.first]], rows[shownAt[held.end - 1]]];
+  if (count === lines.length) return room.forEach((it) => it.remove());
+  const [first, last] = [rowOfLine(lines[held.first]), rowOfLine(lines[held.end - 1])];
   rowHeight = Math.max(40, (last.offsetTop + last.offsetHeight - first.offsetTop) / count);
   list.prepend(room[0]);
   list.append(room[1]);
   room[0].style.height = held.first * rowHeight + \"px\";
-  room[1].style.height = (shownAt.length - held.end) * rowHeight + \"px\";
-  for (let at = held.first; at < held.end; at += 1) {
-    rows[shownAt[at]].ariaSetSize = shownAt.length;
-    rows[shownAt[at]].ariaPosInSet = at + 1;
-  }
+  room[1].style.height = (lines.length - held.end) * rowHeight + \"px\";
+  for (let at = held.first; at < held.end; at += 1)
+    Object.assign(rowOfLine(lines[at]), { ariaSetSize: lines.length, ariaPosInSet: at + 1 });
 }
 
 // Holds other rows where the list was moved to an end of those that it holds.
 function follow() {
-  if (held.end - held.first === shownAt.length) return;
+  if (held.end - held.first === lines.length) return;
   const top = list.scrollTop - room[0].offsetHeight;
   const bottom = room[1].offsetTop - list.scrollTop - list.clientHeight;
   const isOutside = top < -list.clientHeight || bottom < -list.clientHeight;
   if (isOutside) hold(Math.round(list.scrollTop / rowHeight));
   else if (top < list.clientHeight && held.first > 0) hold(held.first + HELD / 4);
-  else if (bottom < list.clientHeight && held.end < shownAt.length) hold(held.end - HELD / 4);
+  else if (bottom < list.clientHeight && held.end < lines.length) hold(held.end - HELD / 4);
+}
+
+// Fills the row of a line. The changes of an edit that is open are set in.
+function fillLine(row, line) {
+  if (isEditLine(line)) return fillEdit(row);
+  fill(row);
+  row.classList.toggle(\"of-edit\", editAt[line] !== null && opened.has(editAt[line]) && lineIndex.has(~editAt[line][0]));
 }
 
 // Brings a row that is shown into sight.
 function reach(row) {
-  fill(row);
-  if (!isShown(numberOf(row) - 1)) return;
-  if (row.parentNode !== list) hold(indexOf(row));
+  const line = lineOfRow(row);
+  fillLine(row, line);
+  if (!lineIndex.has(line)) return;
+  if (row.parentNode !== list) hold(lineIndex.get(line));
   row.scrollIntoView({ block: \"nearest\" });
 }
 
@@ -1377,16 +2018,19 @@ function redrawAll() {
 function drawWords() {
   const now = Array.from(undrawn);
   undrawn = new Set();
+  const edits = new Set(now.map((at) => editAt[at]).filter((it) => it && editRows.has(it[0])));
   for (const at of now) {
     set(rows[at], \"say\", words[at]);
     press(rows[at]);
     placesAt(at).forEach(drawWhereNear);
   }
+  for (const it of edits) pressEdit(editRows.get(it[0]));
   followSoon();
   if (viewNow() === \"marks\") return;
   const touched = new Set(now.flatMap((at) => placesAt(at).map(listedElement)));
   seeLists(Array.from(touched).filter((it) => withLists.has(it)));
   captionView();
+  numberSoon();
 }
 
 // What is far from sight is drawn when its part catches up.
@@ -1416,44 +2060,65 @@ function set(element, key, value) {
   else element.removeAttribute(name);
 }
 
-// The change that is chosen, and the ways to the next one.
+// The change or the edit that is chosen, and the ways to the next one.
 
 let current = null;
+let markedCurrent = [];
 
-// Makes a row the current one: it has the keyboard, and it and its place in the document are shown.
+// Makes a row the current one: it has the keyboard, and it and its places in the document are shown.
 function choose(row, isFromDocument) {
-  if (current) for (const it of [current, ...placesOf(current)]) it.removeAttribute(\"aria-current\");
-  current = row;
+  makeCurrent(row);
   reach(row);
-  for (const it of [row, ...placesOf(row)]) it.setAttribute(\"aria-current\", \"true\");
   row.focus({ preventScroll: true });
   if (!isFromDocument) showPlace(row);
 }
 
-// The next place from here that is shown and of which this holds, round the end of the list; -1 where there is none.
-function nextPlace(from, by, holds) {
-  for (let count = 1; count <= rows.length; count += 1) {
-    const at = (from + by * count + rows.length * 2) % rows.length;
-    if (isShown(at) && holds(at)) return at;
-  }
-  return -1;
+function makeCurrent(row) {
+  for (const it of markedCurrent) it.removeAttribute(\"aria-current\");
+  current = row;
+  markedCurrent = [row, ...placesOf(row)];
+  for (const it of markedCurrent) it.setAttribute(\"aria-current\", \"true\");
 }
 
+// Where an edit was opened or closed, or the filter leaves one of its changes alone, what is chosen stays chosen in its new row.
+function followCurrent() {
+  if (!current) return;
+  const line = lineOfRow(current);
+  if (lineIndex.has(line)) return makeCurrent(current);
+  const at = (isEditLine(line) ? editAt[~line] : [line]).find(isShown);
+  if (at !== undefined) makeCurrent(rowOfLine(lineAt(at)));
+}
+
+// The index of the line from which the next one is sought in a direction: that of the one chosen, or its place among the others.
 function here(by) {
-  return current ? numberOf(current) - 1 : by < 0 ? rows.length : -1;
+  if (!current) return by < 0 ? lines.length : -1;
+  const line = lineOfRow(current);
+  if (lineIndex.has(line)) return lineIndex.get(line);
+  const at = isEditLine(line) ? ~line : line;
+  const next = lines.findIndex((it) => (isEditLine(it) ? ~it : it) > at);
+  return (next < 0 ? lines.length : next) - (by > 0 ? 1 : 0);
+}
+
+// The next line from an index of which this holds, round the end of the list; null where there is none.
+function nextLine(from, by, holds) {
+  for (let count = 1; count <= lines.length; count += 1) {
+    const line = lines[(from + by * count + lines.length * 2) % lines.length];
+    if (lineHolds(line, holds)) return line;
+  }
+  return null;
 }
 
 function step(by) {
-  const next = nextShown(here(by), by);
-  if (next >= 0) choose(rows[next]);
+  const next = lines[here(by) + by];
+  if (next !== undefined) choose(rowOfLine(next));
 }
 
 // Goes to the next change of some sort, or says that there is none.
 function seek(by, holds, sort) {
-  const at = nextPlace(here(by), by, holds);
-  if (at < 0) return tell(\"No change that is shown is \" + sort + \".\");
-  choose(rows[at]);
-  tell(\"Change \" + (at + 1) + \" is \" + sort + \".\");
+  const line = nextLine(here(by), by, holds);
+  if (line === null) return tell(\"No change that is shown is \" + sort + \".\");
+  choose(rowOfLine(line));
+  tell(isEditLine(line) ? \"Edit \" + rangesInWords(placesOfLine(line)) + \" has a change that is \" + sort + \".\" : \"Change \" + (line + 1) + \" is \" + sort + \".\");
 }
 
 function isDisputed(at) {
@@ -1474,9 +2139,10 @@ function act(text, changes) {
 // What a button or a key does: its word, or none where the change has that word already.
 function decide(row, word) {
   if (!row) return tell(\"Choose a change first: the key j goes to the next one.\");
+  if (row.matches(\".edit\")) return decideEdit(row, word);
   const at = numberOf(row) - 1;
   const name = \"Change \" + (at + 1);
-  if (!isShown(at)) return tell(name + \" is hidden by the filter: the key j goes to the next one.\");
+  if (!lineIndex.has(at)) return tell(name + \" is hidden by the filter: the key j goes to the next one.\");
   if (lockedAt[at]) return tell(name + \" is locked.\");
   const former = words[at];
   if (word === \"withdraw\" && former !== word && !hasEarlier(at)) return tell(nothingToWithdraw(name));
@@ -1490,10 +2156,10 @@ function nothingToWithdraw(name) {
   return name + \": there is no earlier word \" + (reviewer ? \"of \" + reviewer : \"of yours, as far as this page knows without your name,\") + \" to withdraw.\";
 }
 
-// After a decision the next change that isn't decided is chosen.
-function goOn(at) {
-  const next = nextPlace(at, 1, isUndecided);
-  if (next >= 0) return choose(rows[next]);
+// After a decision the next line with a change that isn't decided is chosen.
+function goOn(line) {
+  const next = nextLine(lineIndex.get(line), 1, isUndecided);
+  if (next !== null) return choose(rowOfLine(next));
   const hidden = rows.filter((_, place) => isUndecided(place)).length;
   tell(line.textContent + (hidden ? \" All that is shown is decided; \" + many(hidden, \"change\") + \" that the filter hides \" + (hidden === 1 ? \"is\" : \"are\") + \" not.\" : \" All changes are decided.\"));
 }
@@ -1583,7 +2249,7 @@ function counted(values) {
 
 function offerFilters() {
   offer(authors, [\"Author\", counted(authorsOf).map(([it, count]) => [\"=\" + it, (spelled(it) || \"no name\") + \" (\" + count + \")\"])]);
-  offer(kinds, [\"Kind\", counted(kindsOf).map(([it, count]) => [it, KINDS[it] + \" (\" + count + \")\"])], ...formats());
+  offer(kinds, [\"Kind\", counted(kindsOf).map(([it, count]) => [it, KINDS[it] + \" (\" + count + \")\"])], ...formats(), ...hiddenTexts());
   offer(states,
     [\"By you\", [[\"s:\", \"not decided\"], ...Object.keys(DONE).map((it) => [\"s:\" + it, DONE[it]])]],
     [\"By others\", [[\"differ\", \"differ from you\"]]],
@@ -1598,7 +2264,13 @@ function formats() {
   return [[\"Format\", [[\"f:other\", \"not only language (\" + (changes.length - languages) + \")\"], [\"f:language\", LANGUAGE + \" (\" + languages + \")\"]]]];
 }
 
+// Changes of hidden text, where there are any.
+function hiddenTexts() {
+  return isHiddenAt.size ? [[\"Text\", [[\"h:hidden\", \"hidden text (\" + isHiddenAt.size + \")\"]]]] : [];
+}
+
 function isOfKind(at, kind) {
+  if (kind === \"h:hidden\") return isHiddenAt.has(at);
   if (kind === \"f:language\") return changesOf[at] === LANGUAGE;
   return kind === \"f:other\" ? changesOf[at] !== \"\" && changesOf[at] !== LANGUAGE : kind === kindsOf[at];
 }
@@ -1644,8 +2316,8 @@ function recount() {
   acceptAll.disabled = rejectAll.disabled = count === 0;
 }
 
-// The text in which a change is searched: its kind, its clause, its place, what it changes, its author, who spoke of it, and the paragraph
-// or row that it stands in.
+// The text in which a change is searched: its kind, its clause, its place, what it changes, its author, who spoke of it, the comments on
+// it, and the paragraph or row that it stands in.
 
 const searchTexts = [];
 const blockTexts = new Map();
@@ -1658,7 +2330,7 @@ function searchText(at) {
   if (searchTexts[at] === undefined) {
     const blocks = new Set(placesOf(rows[at]).map(blockOf).filter((it) => it));
     const said = saysOn(at).map((it) => it.who);
-    searchTexts[at] = plainText([KINDS[kindsOf[at]], clausesOf[at], placeNames[at], changesOf[at], authorsOf[at], ...said].join(\" \")) + \" \" + Array.from(blocks, textOfBlock).join(\" \");
+    searchTexts[at] = plainText([KINDS[kindsOf[at]], clausesOf[at], placeNames[at], changesOf[at], authorsOf[at], ...said, ...threadsOn([at]).flatMap(threadOf).map(remarkInWords)].join(\" \")) + \" \" + Array.from(blocks, textOfBlock).join(\" \");
   }
   return searchTexts[at];
 }
@@ -1668,9 +2340,17 @@ function blockOf(place) {
   return place.closest(\".edge\") ? place.closest(\"tr\") : place.closest(\"p, .p, td\");
 }
 
+// Its text, without the signs of comments.
 function textOfBlock(block) {
-  if (!blockTexts.has(block)) blockTexts.set(block, plainText(block.textContent));
+  if (!blockTexts.has(block)) blockTexts.set(block, plainText(block.querySelector(\".remark\") ? textWithoutRemarks(block) : block.textContent));
   return blockTexts.get(block);
+}
+
+function textWithoutRemarks(block) {
+  const walker = document.createTreeWalker(block, NodeFilter.SHOW_TEXT);
+  let text = \"\";
+  while (walker.nextNode()) if (!walker.currentNode.parentElement.closest(\".remark\")) text += walker.currentNode.data;
+  return text;
 }
 
 // The browser's own store keeps words by document and name, so that a page that is closed loses none.
@@ -2290,7 +2970,7 @@ function part(name, places, told, isOpen = false) {
 
 function linesOf(places, told) {
   const lines = places.slice(0, LISTED).map((at) => make(\"li\", {}, goTo(at), \" \", make(\"span\", { className: \"about\" }, KINDS[kindsOf[at]] + \" by \", isolated(authorsOf[at])),
-    told(at) ? \": \" : \"\", make(\"strong\", {}, told(at)), excerpt(rows[at])));
+    told(at) ? \": \" : \"\", make(\"strong\", {}, told(at)), excerptOf([at])));
   return [make(\"ul\", {}, ...lines), places.length > LISTED ? paragraph(\"And \" + (places.length - LISTED) + \" more; the file that is saved has all of them.\") : \"\"];
 }
 
@@ -2300,7 +2980,7 @@ function goTo(at) {
   button.addEventListener(\"click\", () => {
     closeDialog();
     if (!isShown(at)) showAll();
-    choose(rows[at]);
+    chooseChange(at);
   });
   return button;
 }
@@ -2329,11 +3009,13 @@ const KEYS = [
   [\"j\", \"go to the next change\"], [\"k\", \"go back\"],
   [\"a\", \"accept the change that is chosen\"], [\"r\", \"reject it\"], [\"w\", \"withdraw your earlier word on it\"],
   [\"n\", \"the next change that you haven't decided\"], [\"d\", \"the next disputed one\"], [\"o\", \"the next where others differ from you\"],
-  [\"u\", \"undo\"], [\"/\", \"search\"], [\"?\", \"this help\"],
+  [\"e\", \"open or close an edit of several changes\"], [\"u\", \"undo\"], [\"/\", \"search\"], [\"?\", \"this help\"],
 ];
 const HELP = [
-  [\"What you see\", \"What someone inserted is underlined, what someone deleted is struck through, each in the colour of its author. A \\u00b6 is the end of a paragraph that was inserted or deleted: accept a deleted one, and the two paragraphs become one. Moved text is underlined or struck through twice. A bar at the edge stands for a change of format, or for a row of a table: a full bar for an inserted row, a dashed one for a deleted row.\"],
+  [\"What you see\", \"What someone inserted is underlined, what someone deleted is struck through, each in the colour of its author. A \\u00b6 is the end of a paragraph that was inserted or deleted: accept a deleted one, and the two paragraphs become one. Moved text is underlined or struck through twice. A bar at the edge stands for a change of format, or for a row of a table: a full bar for an inserted row, a dashed one for a deleted row. The number before a paragraph is that of its clause, in each view.\"],
+  [\"Comments\", \"A small sign such as c1 stands where a comment is: press it to read the comment and the answers to it, and what it is on is tinted. Comments on a change stand in its row too, and comments that are nowhere in the text are at the end. The sign of a note leads to the note, and back.\"],
   [\"Decide\", \"Choose a change, in the document or in the list, and accept or reject it. The same key or button again takes your word away. A change that you leave alone is left to the others. A locked change can't be decided here. After a decision the next undecided change is chosen; \\\"Go on by itself\\\" under \\\"Filter\\\" switches that off.\"],
+  [\"Edits\", \"Changes that were one act, such as a replaced word or a deleted row, are one row with one decision. \\\"7 changes\\\" in it, or the key e, shows them one by one. A decision on the row is for all of them that aren't decided. \\\"Edits as one row\\\" under \\\"Filter\\\" switches that off. Everything is counted by single changes.\"],
   [\"Withdraw\", \"Takes back what you said in an earlier round. It is there only where the page knows of an earlier word of yours: in the journals with which it was made, or in one that you saved or opened here.\"],
   [\"Many at once\", \"Filter by author, kind or state, or search. \\\"Accept these 12\\\" accepts what the filter leaves at that moment. Before another word of yours is replaced you are asked. \\\"Undo\\\" takes back one step after the other.\"],
   [\"Views\", \"With marks you see what was inserted and deleted. \\\"final\\\" shows the text that is written once the rest is accepted: what the journals and you decided is done, and what is open or disputed is tinted. \\\"original\\\" shows the rest as rejected.\"],
@@ -2356,13 +3038,30 @@ function showHelp() {
 // What is clicked and which keys are pressed.
 
 document.addEventListener(\"click\", ({ target, detail }) => {
+  if (pressSign(target)) return;
   const row = target.closest(\"aside > ol > li\");
   const place = target.closest(\"main [data-revision]\");
   if (row) choose(row);
-  else if (place) choose(rows[Number(place.dataset.revision) - 1], true);
+  else if (place) choose(rowOfLine(lineAt(Number(place.dataset.revision) - 1)), true);
   // The second click of a double click would take the word away again.
-  if (row && target.matches(\".buttons button\") && detail < 2) pressButton(row, target, detail === 0);
+  if (row && target.matches(\".buttons button[value]\") && detail < 2) pressButton(row, target, detail === 0);
+  if (row && target.matches(\".open-edit\")) pressOpen(row);
 });
+
+// What leads to another place of the document, or opens a comment: whether it was one of these.
+function pressSign(target) {
+  const note = target.closest('sup[role=\"link\"]');
+  if (note) goToElement(noteLinks.get(note));
+  else if (target.matches(\".remark-sign\")) openRemark(target);
+  else if (target.matches(\".remark-way\")) goToRemark(target);
+  return note || target.matches(\".remark-sign, .remark-way, .remark-box, .remark-box *\");
+}
+
+// The row of an edit is opened or closed, and its button keeps the keyboard.
+function pressOpen(row) {
+  openLine(lineOfRow(row));
+  row.querySelector(\".open-edit\").focus();
+}
 
 // A button that was pressed by key leaves the keyboard on the same button, of the next row where that is chosen.
 function pressButton(row, button, isByKey) {
@@ -2374,6 +3073,8 @@ function pressButton(row, button, isByKey) {
 
 const PRESSED = {
   j: () => step(1), k: () => step(-1), u: takeBack,
+  e: () => (current ? openLine(editLineOf(current)) : tell(\"Choose a change first: the key j goes to the next one.\")),
+  Escape: closeRemarks,
   n: () => seek(1, isUndecided, \"not decided\"), N: () => seek(-1, isUndecided, \"not decided\"),
   d: () => seek(1, isDisputed, \"disputed\"), D: () => seek(-1, isDisputed, \"disputed\"),
   o: () => seek(1, differs, \"one where others differ from you\"), O: () => seek(-1, differs, \"one where others differ from you\"),
@@ -2388,6 +3089,7 @@ const PRESSED = {
 document.addEventListener(\"keydown\", (event) => {
   if (event.ctrlKey || event.altKey || event.metaKey || event.target.closest(\"input[type=text], input[type=search], select, dialog\")) return;
   if (event.repeat && event.target.closest(\"button\")) event.preventDefault();
+  if (event.key === \"Enter\" && noteLinks.has(event.target)) return goToElement(noteLinks.get(event.target));
   const word = WORDS.find((it) => LETTERS[it] === event.key);
   if (word && !event.repeat) decide(current, word);
   if (!Object.hasOwn(PRESSED, event.key) || (event.repeat && !\"jk\".includes(event.key))) return;
@@ -2417,7 +3119,7 @@ window.redline = {
   journal: (name = reviewer) => journal(name),
   refusal: (name = reviewer) => refusal(name),
   name: () => reviewer,
-  choose: (number) => rows[number - 1] && choose(rows[number - 1]),
+  choose: (number) => rows[number - 1] && chooseChange(number - 1),
   openJournal: (text, file) => openJournal(text, file),
   state: () => ({ name: reviewer, typed: person.value, record: recordText(recordNow()), acts: Array.from(acts) }),
   restore,
@@ -2474,6 +3176,10 @@ document.addEventListener(\"drop\", (event) => {
   event.preventDefault();
   if (event.dataTransfer.files[0]) openFile(event.dataTransfer.files[0]);
 });
+together.addEventListener(\"change\", () => {
+  store(\"redline setting together\", together.checked ? \"yes\" : \"no\");
+  showAnew();
+});
 advance.addEventListener(\"change\", () => store(\"redline setting advance\", advance.checked ? \"yes\" : \"no\"));
 addEventListener(\"storage\", hearStore);
 addEventListener(\"pagehide\", () => waiting && keep());
@@ -2486,6 +3192,7 @@ function begin() {
   document.body.dataset.view = \"marks\";
   watchRows();
   advance.checked = stored(\"redline setting advance\") !== \"no\";
+  together.checked = stored(\"redline setting together\") !== \"no\";
   offerNames();
   filter();
   changed();

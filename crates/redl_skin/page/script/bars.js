@@ -16,13 +16,13 @@ const [acceptAll, rejectAll] = ["accept-all", "reject-all"].map((id) => make("bu
 
 function build() {
   person.setAttribute("list", "known");
-  const short = [["j", "next"], ["k", "back"], ["a", "accept"], ["r", "reject"], ["?", "help"]];
+  const short = [["j", "next"], ["k", "back"], ["a", "accept"], ["r", "reject"], ["e", "open edit"], ["?", "help"]];
   document.body.prepend(make("header", {}, make("h1", {}, ...(title ? [isolated(title), ": changes to decide"] : ["Changes to decide"])), tally, views, openButton, help),
     make("p", { id: "printed" }));
   aside.prepend(make("div", { className: "sign" }, labelled("Your name", person), known, save, file),
     make("div", { className: "told" }, line, undo),
     make("details", { className: "choose", open: innerWidth > 960 }, make("summary", { textContent: "Filter, and decide all that is left" }),
-      make("div", { className: "filter" }, labelled("Author", authors), labelled("Kind", kinds), labelled("State", states), labelled("Search", search), labelled("Go on by itself", advance), acceptAll, rejectAll)),
+      make("div", { className: "filter" }, labelled("Author", authors), labelled("Kind", kinds), labelled("State", states), labelled("Search", search), labelled("Go on by itself", advance), labelled("Edits as one row", together), acceptAll, rejectAll)),
     make("p", { className: "keys" }, ...short.flatMap(([key, text]) => [make("kbd", { textContent: key }), " " + text + " "])));
   offerFilters();
   main.setAttribute("aria-label", "Document");

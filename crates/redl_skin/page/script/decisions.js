@@ -8,9 +8,10 @@ function act(text, changes) {
 // What a button or a key does: its word, or none where the change has that word already.
 function decide(row, word) {
   if (!row) return tell("Choose a change first: the key j goes to the next one.");
+  if (row.matches(".edit")) return decideEdit(row, word);
   const at = numberOf(row) - 1;
   const name = "Change " + (at + 1);
-  if (!isShown(at)) return tell(name + " is hidden by the filter: the key j goes to the next one.");
+  if (!lineIndex.has(at)) return tell(name + " is hidden by the filter: the key j goes to the next one.");
   if (lockedAt[at]) return tell(name + " is locked.");
   const former = words[at];
   if (word === "withdraw" && former !== word && !hasEarlier(at)) return tell(nothingToWithdraw(name));
@@ -24,10 +25,10 @@ function nothingToWithdraw(name) {
   return name + ": there is no earlier word " + (reviewer ? "of " + reviewer : "of yours, as far as this page knows without your name,") + " to withdraw.";
 }
 
-// After a decision the next change that isn't decided is chosen.
-function goOn(at) {
-  const next = nextPlace(at, 1, isUndecided);
-  if (next >= 0) return choose(rows[next]);
+// After a decision the next line with a change that isn't decided is chosen.
+function goOn(line) {
+  const next = nextLine(lineIndex.get(line), 1, isUndecided);
+  if (next !== null) return choose(rowOfLine(next));
   const hidden = rows.filter((_, place) => isUndecided(place)).length;
   tell(line.textContent + (hidden ? " All that is shown is decided; " + many(hidden, "change") + " that the filter hides " + (hidden === 1 ? "is" : "are") + " not." : " All changes are decided."));
 }

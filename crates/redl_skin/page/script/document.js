@@ -2,13 +2,16 @@
 
 // What is far from sight costs nothing: of a long story so many blocks are a group, and of a long table so many rows.
 const FAR = 100;
-const STORIES = { hdr: "Header", ftr: "Footer", footnotes: "Footnotes", endnotes: "Endnotes", comments: "Comments" };
 
 // It is taken out of the page for that: a browser looks at all that follows a block that is moved.
 function arrange() {
   document.querySelector("header").append(viewLine);
   const { scrollTop, nextSibling } = main;
   main.remove();
+  readNumbers();
+  linkNotes();
+  showImages();
+  placeRemarks();
   for (const it of main.querySelectorAll('[data-style^="Heading"], [data-style="Title"]')) head(it);
   nameStories();
   for (const edge of Array.from(main.querySelectorAll("td.edge"))) bringIn(edge);
@@ -53,27 +56,19 @@ function groupRows(body) {
   }
 }
 
-// The document comes first. The other stories are behind it, each with what it is as its heading.
+// Of several stories of one sort the heading of each has its number, and the name of its part is at hand.
 function nameStories() {
   const stories = Array.from(main.querySelectorAll(":scope > [data-story]"));
-  const counts = {};
-  for (const { dataset } of stories) counts[dataset.story] = (counts[dataset.story] || 0) + 1;
+  const counts = new Map(counted(stories.map((it) => it.dataset.story)));
   const named = {};
   for (const story of stories) {
     const sort = story.dataset.story;
     named[sort] = (named[sort] || 0) + 1;
-    if (STORIES[sort]) main.append(story);
-    headStory(story, STORIES[sort], counts[sort] > 1 ? " " + named[sort] : "");
+    const title = story.querySelector(":scope > h2");
+    if (!title) continue;
+    title.title = story.dataset.part;
+    if (sort !== "document" && counts.get(sort) > 1) title.append(" " + named[sort]);
   }
-}
-
-// Its heading was the name of its part, which stays at hand; the first story has none, and the document needs none.
-function headStory(story, words, count) {
-  const title = story.querySelector(":scope > h2");
-  if (words) {
-    if (!title) story.prepend(make("h2", { textContent: words + count }));
-    else Object.assign(title, { title: title.textContent, textContent: words + count });
-  } else if (title && story === main.querySelector(':scope > [data-story="document"]')) title.remove();
 }
 
 // A paragraph with the style of a heading is one.
@@ -96,8 +91,9 @@ function placeOf(member) {
 
 let places = null;
 
+// The elements of the change of a row, or of those of an edit.
 function placesOf(row) {
-  return placesAt(numberOf(row) - 1);
+  return placesOfLine(lineOfRow(row)).flatMap(placesAt);
 }
 
 // The elements of the change at a place.

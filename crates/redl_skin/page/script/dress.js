@@ -26,5 +26,6 @@ function wordsOfChange(at) {
   const { date } = rows[at].dataset;
   const kind = KINDS[kindsOf[at]] + (changesOf[at] && " (" + spelled(changesOf[at]) + ")");
   const where = [clausesOf[at], placeNames[at]].filter((it) => it).map((it) => ", " + spelled(it)).join("");
-  return "Change " + (at + 1) + where + ": " + kind + " by " + spelled(authorsOf[at] || "no name") + (date === "-" ? "" : ", " + date.slice(0, 10));
+  const said = threadsOn([at]).flatMap(threadOf).length;
+  return "Change " + (at + 1) + where + ": " + kind + " by " + spelled(authorsOf[at] || "no name") + (date === "-" ? "" : ", " + date.slice(0, 10)) + (said ? ", " + many(said, "comment") : "");
 }

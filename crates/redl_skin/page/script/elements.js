@@ -9,7 +9,7 @@ const main = document.querySelector("main");
 const aside = document.querySelector("aside");
 const list = aside.querySelector("ol");
 const rows = Array.from(list.children);
-const sequences = new Map(Array.from(aside.querySelectorAll("ul > li"), (it) => [it.textContent, Number(it.dataset.sequence)]));
+const sequences = new Map(Array.from(aside.querySelectorAll(":scope > ul:not([class]) > li"), (it) => [it.textContent, Number(it.dataset.sequence)]));
 // The greatest sequence number, and the most bytes of a journal.
 const LARGEST = 4294967295;
 const LARGEST_JOURNAL = 67108864;
@@ -28,6 +28,14 @@ function make(name, properties = {}, ...inside) {
   }
   made.append(...inside);
   return made;
+}
+
+// The items of the lists that came for this script alone, which are taken out of the page: those of each list with its part.
+function takenItems(selector) {
+  return Array.from(aside.querySelectorAll(":scope > " + selector), (it) => {
+    it.remove();
+    return Object.assign(Array.from(it.children), { part: it.dataset.part });
+  });
 }
 
 function labelled(text, field) {

@@ -70,10 +70,10 @@ function wholeOf(place) {
   return place.matches("caption > .props") ? place.closest("table") : null;
 }
 
-// What a change is about: its own words between those around it, or the texts of its row, cell or table.
-function excerpt(row) {
-  const found = placesOf(row);
-  const place = found.find((it) => it.matches("del, ins")) || found[0];
+// What changes are about: their own words between those around them, or the texts of a row, a cell or a table.
+function excerptOf(changes) {
+  const found = changes.slice(0, 100).flatMap(placesAt);
+  const place = found.find((it) => it.matches(".row")) || found.find((it) => it.matches("del.text, ins.text")) || found.find((it) => it.matches("del, ins")) || found[0];
   const made = make("p", { className: "words" });
   if (!place) return made;
   const whole = wholeOf(place);
@@ -86,9 +86,15 @@ function excerpt(row) {
   }
   const [before, inside, after] = piecesAround(place);
   const words = textOf(inside).trim() ? cutPieces(inside, 120).map((it) => (it.change === place ? { ...it, change: null } : it)) : [{ text: sign }];
-  made.append(...cutPieces(before, 32, true).map(shownPiece),
+  const own = new Set(changes.map((at) => String(at + 1)));
+  const shown = (pieces) => pieces.map((it) => {
+    const piece = shownPiece(it);
+    if (it.change && own.has(it.change.dataset.revision)) piece.classList.add("own");
+    return piece;
+  });
+  made.append(...shown(cutPieces(before, 32, true)),
     make(place.localName, { className: "own" }, ...words.map(shownPiece)),
-    ...cutPieces(after, 32).map(shownPiece));
+    ...shown(cutPieces(after, changes.length > 1 ? 90 : 32)));
   return made;
 }
 

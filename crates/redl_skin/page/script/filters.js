@@ -15,7 +15,7 @@ function counted(values) {
 
 function offerFilters() {
   offer(authors, ["Author", counted(authorsOf).map(([it, count]) => ["=" + it, (spelled(it) || "no name") + " (" + count + ")"])]);
-  offer(kinds, ["Kind", counted(kindsOf).map(([it, count]) => [it, KINDS[it] + " (" + count + ")"])], ...formats());
+  offer(kinds, ["Kind", counted(kindsOf).map(([it, count]) => [it, KINDS[it] + " (" + count + ")"])], ...formats(), ...hiddenTexts());
   offer(states,
     ["By you", [["s:", "not decided"], ...Object.keys(DONE).map((it) => ["s:" + it, DONE[it]])]],
     ["By others", [["differ", "differ from you"]]],
@@ -30,7 +30,13 @@ function formats() {
   return [["Format", [["f:other", "not only language (" + (changes.length - languages) + ")"], ["f:language", LANGUAGE + " (" + languages + ")"]]]];
 }
 
+// Changes of hidden text, where there are any.
+function hiddenTexts() {
+  return isHiddenAt.size ? [["Text", [["h:hidden", "hidden text (" + isHiddenAt.size + ")"]]]] : [];
+}
+
 function isOfKind(at, kind) {
+  if (kind === "h:hidden") return isHiddenAt.has(at);
   if (kind === "f:language") return changesOf[at] === LANGUAGE;
   return kind === "f:other" ? changesOf[at] !== "" && changesOf[at] !== LANGUAGE : kind === kindsOf[at];
 }
@@ -76,8 +82,8 @@ function recount() {
   acceptAll.disabled = rejectAll.disabled = count === 0;
 }
 
-// The text in which a change is searched: its kind, its clause, its place, what it changes, its author, who spoke of it, and the paragraph
-// or row that it stands in.
+// The text in which a change is searched: its kind, its clause, its place, what it changes, its author, who spoke of it, the comments on
+// it, and the paragraph or row that it stands in.
 
 const searchTexts = [];
 const blockTexts = new Map();
@@ -90,7 +96,7 @@ function searchText(at) {
   if (searchTexts[at] === undefined) {
     const blocks = new Set(placesOf(rows[at]).map(blockOf).filter((it) => it));
     const said = saysOn(at).map((it) => it.who);
-    searchTexts[at] = plainText([KINDS[kindsOf[at]], clausesOf[at], placeNames[at], changesOf[at], authorsOf[at], ...said].join(" ")) + " " + Array.from(blocks, textOfBlock).join(" ");
+    searchTexts[at] = plainText([KINDS[kindsOf[at]], clausesOf[at], placeNames[at], changesOf[at], authorsOf[at], ...said, ...threadsOn([at]).flatMap(threadOf).map(remarkInWords)].join(" ")) + " " + Array.from(blocks, textOfBlock).join(" ");
   }
   return searchTexts[at];
 }
@@ -100,7 +106,15 @@ function blockOf(place) {
   return place.closest(".edge") ? place.closest("tr") : place.closest("p, .p, td");
 }
 
+// Its text, without the signs of comments.
 function textOfBlock(block) {
-  if (!blockTexts.has(block)) blockTexts.set(block, plainText(block.textContent));
+  if (!blockTexts.has(block)) blockTexts.set(block, plainText(block.querySelector(".remark") ? textWithoutRemarks(block) : block.textContent));
   return blockTexts.get(block);
+}
+
+function textWithoutRemarks(block) {
+  const walker = document.createTreeWalker(block, NodeFilter.SHOW_TEXT);
+  let text = "";
+  while (walker.nextNode()) if (!walker.currentNode.parentElement.closest(".remark")) text += walker.currentNode.data;
+  return text;
 }

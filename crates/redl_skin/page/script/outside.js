@@ -6,7 +6,7 @@ window.redline = {
   journal: (name = reviewer) => journal(name),
   refusal: (name = reviewer) => refusal(name),
   name: () => reviewer,
-  choose: (number) => rows[number - 1] && choose(rows[number - 1]),
+  choose: (number) => rows[number - 1] && chooseChange(number - 1),
   openJournal: (text, file) => openJournal(text, file),
   state: () => ({ name: reviewer, typed: person.value, record: recordText(recordNow()), acts: Array.from(acts) }),
   restore,

@@ -71,5 +71,6 @@ function catchUpSome() {
 // What is printed, and what is copied, is all as it is now.
 function seeAll() {
   Array.from(behind, catchUp);
+  seeNumbers();
   followSoon();
 }

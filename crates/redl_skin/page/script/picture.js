@@ -15,16 +15,19 @@ function redrawAll() {
 function drawWords() {
   const now = Array.from(undrawn);
   undrawn = new Set();
+  const edits = new Set(now.map((at) => editAt[at]).filter((it) => it && editRows.has(it[0])));
   for (const at of now) {
     set(rows[at], "say", words[at]);
     press(rows[at]);
     placesAt(at).forEach(drawWhereNear);
   }
+  for (const it of edits) pressEdit(editRows.get(it[0]));
   followSoon();
   if (viewNow() === "marks") return;
   const touched = new Set(now.flatMap((at) => placesAt(at).map(listedElement)));
   seeLists(Array.from(touched).filter((it) => withLists.has(it)));
   captionView();
+  numberSoon();
 }
 
 // What is far from sight is drawn when its part catches up.

@@ -17,6 +17,10 @@ document.addEventListener("drop", (event) => {
   event.preventDefault();
   if (event.dataTransfer.files[0]) openFile(event.dataTransfer.files[0]);
 });
+together.addEventListener("change", () => {
+  store("redline setting together", together.checked ? "yes" : "no");
+  showAnew();
+});
 advance.addEventListener("change", () => store("redline setting advance", advance.checked ? "yes" : "no"));
 addEventListener("storage", hearStore);
 addEventListener("pagehide", () => waiting && keep());
@@ -29,6 +33,7 @@ function begin() {
   document.body.dataset.view = "marks";
   watchRows();
   advance.checked = stored("redline setting advance") !== "no";
+  together.checked = stored("redline setting together") !== "no";
   offerNames();
   filter();
   changed();

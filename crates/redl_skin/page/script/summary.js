@@ -54,7 +54,7 @@ function part(name, places, told, isOpen = false) {
 
 function linesOf(places, told) {
   const lines = places.slice(0, LISTED).map((at) => make("li", {}, goTo(at), " ", make("span", { className: "about" }, KINDS[kindsOf[at]] + " by ", isolated(authorsOf[at])),
-    told(at) ? ": " : "", make("strong", {}, told(at)), excerpt(rows[at])));
+    told(at) ? ": " : "", make("strong", {}, told(at)), excerptOf([at])));
   return [make("ul", {}, ...lines), places.length > LISTED ? paragraph("And " + (places.length - LISTED) + " more; the file that is saved has all of them.") : ""];
 }
 
@@ -64,7 +64,7 @@ function goTo(at) {
   button.addEventListener("click", () => {
     closeDialog();
     if (!isShown(at)) showAll();
-    choose(rows[at]);
+    chooseChange(at);
   });
   return button;
 }

@@ -24,6 +24,7 @@ function seeAs(view) {
     seeLists(withLists);
   }
   captionView();
+  seeNumbers();
 }
 
 // The element whose lists a change may change.
@@ -126,5 +127,6 @@ function captionView() {
   const some = [open ? open + " open" : "", disputed ? disputed + " disputed" : ""].filter(Boolean).join(" and ");
   viewLine.textContent = !text ? "" : text + ". " + (some ? "Tinted: " + some + ", shown as " + rest + "." : "All is decided.") +
     (!text || main.querySelector("[data-story]") ? "" : " Around content controls paragraphs may be joined otherwise.") +
-    (main.querySelector(".doubt") ? " Where it isn't known whether an empty paragraph stays, it says so." : "");
+    (main.querySelector(".doubt") ? " Where it isn't known whether an empty paragraph stays, it says so." : "") +
+    (!text || isCounting ? "" : " The numbers of clauses are shown with marks alone.");
 }
