@@ -23,7 +23,7 @@ EVIL = [
 ]
 # Control characters: what HTML can't hold is shown as U+FFFD, the others have a sign.
 CONTROLS, CONTROLS_SHOWN = "a\x7fb\u0085c\u009fd", ["a\ufffdb\u0085c\u009fd", 2]
-NAMES = {"class", "data-revision", "data-author", "data-style", "id", "href", "data-say", "aria-current", "lang", "role", "aria-level", "aria-label", "tabindex", "title", "data-sign", "data-story"}
+NAMES = {"class", "data-revision", "data-author", "data-style", "id", "href", "data-say", "aria-current", "lang", "role", "aria-level", "aria-label", "tabindex", "title", "data-sign", "data-story", "data-part"}
 
 
 def quoted(text):

@@ -131,11 +131,11 @@ def looks(driven):
 def by_keys_alone(driven):
     seen = Seen(driven, page_of("contract.xml"))
     met = []
-    for _ in range(40):
+    for _ in range(60):
         driven.keys(TAB)
         it = seen.run(
             "const it = document.activeElement; const style = getComputedStyle(it);"
-            "return [it.id || it.value || it.localName, style.outlineStyle !== 'none' && parseFloat(style.outlineWidth) >= 2]")
+            "return [it.id || (it.closest('main *') && (it.title || it.ariaLabel)) || it.value || it.localName, style.outlineStyle !== 'none' && parseFloat(style.outlineWidth) >= 2]")
         if it in met:
             break
         met.append(it)

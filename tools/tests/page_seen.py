@@ -83,17 +83,18 @@ def example(name):
     return page.read(os.path.join(EXAMPLES, name))
 
 
-def second_page(name, journals=(), locks=(), title=None, rank=None):
+def second_page(name, journals=(), locks=(), title=None, rank=None, has_pictures=True):
     entries = sum((page.entries_of(example(it)) for it in journals), [])
-    return page.page(reading.Package(example(name)), entries, locks, title, rank).encode()
+    return page.page(reading.Package(example(name)), entries, locks, title, rank, has_pictures).encode()
 
 
-def page_of(name, journals=(), locks=(), title=None, rank=None):
+def page_of(name, journals=(), locks=(), title=None, rank=None, has_pictures=True):
     """The page of a package, a file in examples/ or named whole."""
     if not IS_OWN:
-        return second_page(name, journals, locks, title, rank)
+        return second_page(name, journals, locks, title, rank, has_pictures)
     given = [*[("--lock", lock) for lock in locks], ("--title", title), ("--rank", rank)]
-    made = call("page", name, *journals, *[word for pair in given if pair[1] is not None for word in pair])
+    without = [] if has_pictures else ["--no-pictures"]
+    made = call("page", name, *journals, *[word for pair in given if pair[1] is not None for word in pair], *without)
     return made.stdout
 
 
@@ -105,13 +106,15 @@ def written(name, journals):
 
 
 class Seen:
-    """A page that is open in the browser, and what a reviewer does there."""
+    """A page that is open in the browser, and what a reviewer does there. Each change has its own row, but where edits are to be rows."""
 
-    def __init__(self, driven, whole):
+    def __init__(self, driven, whole, has_edits=False):
         self.driven, self.file = driven, os.path.join(driven.folder, "page.html")
         with open(self.file, "wb") as file:
             file.write(whole)
         driven.open(self.file)
+        if not has_edits:
+            self.run("const it = document.querySelector('#together'); if (it && it.checked && !document.querySelector('aside').inert) it.click()")
 
     def run(self, script, *words):
         return self.driven.run(script, *words)
@@ -166,7 +169,7 @@ class Seen:
     def words(self):
         """The decisions of the page, by number. Those of rows that are in the list are shown there."""
         found = dict(self.run("return Array.from(recordNow().words, ([at, it]) => [at + 1, it.word])"))
-        shown = self.run("return [...document.querySelectorAll('aside > ol > li[id]')].map((it) => [Number(it.id.slice(9)), it.dataset.say || ''])")
+        shown = self.run("return [...document.querySelectorAll('aside > ol > li[id^=revision]')].map((it) => [Number(it.id.slice(9)), it.dataset.say || ''])")
         return found if all(found.get(number, "") == word for number, word in shown) else {"shown": shown, "decided": found}
 
     def saved(self, name):

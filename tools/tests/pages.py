@@ -10,6 +10,7 @@ The cases are in page_*.py; page_seen.py says whose pages they are.
 """
 import sys
 
+import page_facts
 import page_hostile
 import page_large
 import page_looks
@@ -25,7 +26,7 @@ from firefox import Firefox
 from page_seen import IS_OWN, LOCK, REVIEWERS, page_of, second_page, told
 
 BROWSERS = [Chromium, Firefox]
-MODULES = [page_round, page_store, page_work, page_looks, page_sizes, page_signs, page_views, page_hostile, page_large]
+MODULES = [page_round, page_store, page_work, page_looks, page_facts, page_sizes, page_signs, page_views, page_hostile, page_large]
 CASES = [case for module in MODULES for case in module.CASES]
 IN_EACH = page_round.CASES + page_store.CASES
 
@@ -35,6 +36,7 @@ def same_pages():
     for name, journals, locks, *given in [
         ("contract.xml", REVIEWERS, []), ("contract.xml", REVIEWERS[::-1] + REVIEWERS, [LOCK]), ("contract.xml", [], []),
         ("contract.xml", REVIEWERS, [LOCK], 'Supply <July> & "Co"', "0"), ("contract.xml", [], [], None, "9"), ("contract.xml", [], [], ""),
+        ("contract.xml", [], [], None, None, False),
         ("plain.xml", ["ann.journal", "bob.journal"], []), ("letter.xml", [], []), ("terms.xml", ["terms.ann.journal"], []),
         ("joins.xml", [], []), ("properties.xml", [], []), ("rows.xml", [], []), ("moves.xml", [], []),
     ]:
