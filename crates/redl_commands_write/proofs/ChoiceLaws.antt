@@ -1,6 +1,6 @@
 -- The numbers and the words of choices, one choice after another.
 use Rattle.std.proofs.Common.{◌≡◌, ℕ, ◌+◌, ◌<◌, ◌==◌, ◌||◌, Bool, true, false, List, [], ◌∷◌, ◌++◌, map, length, take, get_or, fold, reverse, Option, Some, All, Ordering, Less, Equal, Greater, refl, sym, ap, ◌∙◌, append-nil, cond, if◌then◌else◌}
-use Rattle.std.proofs.lemmas.Bool.{eq-eqb, eqb-true, false_from_ne_true}
+use Rattle.std.proofs.lemmas.Bool.{eq-eqb, eqb-true, false_from_ne_true, or_from, or_parts}
 use Rattle.std.proofs.lemmas.List.{append_assoc, map-append, reverse-append, take_more}
 use Rattle.std.proofs.lemmas.List.Elements.{All-head, All-tail}
 use Rattle.std.proofs.lemmas.List.Folds.{list_any-append}
@@ -8,18 +8,19 @@ use Rattle.std.proofs.lemmas.List.Sums.{fold-append, fold_push}
 use Rattle.std.proofs.lemmas.Grind.{flat_map-append}
 use Rattle.std.specs.BTreeMap.{insert_entry}
 use Rattle.std.specs.BTreeSet.{insert_key}
-use Rattle.std.specs.List.{filter_map, find, flat_map}
+use Rattle.std.specs.List.{filter_map, find, flat_map, list_any}
 use Rattle.std.proofs.lemmas.Map.Lookups.{exact_unsigned}
 use Rattle.std.specs.Cmp.{nat_cmp_is}
 use Rattle.std.specs.Map.{keys_of}
 use Rattle.std.specs.Option.{option_map}
 use Rattle.std.specs.Ordering.{nat_cmp, match_ordering, is_eq}
 use Rattle.std.proofs.Math.Bool.{or-false}
-use Rattle.redl_commands.specs.Choices.{is_among, chosen_numbers, word_on}
+use Rattle.redl_commands.specs.Choices.{ask_edits, chosen_entries, chosen_numbers, entry_with, is_among, word_on}
 use Rattle.redl_index.specs.declared.revision.Revision.{Revision}
 use Rattle.redl_journal.specs.declared.entry.Word.{Word}
 use Rattle.redl_kinds.specs.Selections.{Selection}
-use Rattle.redl_select.specs.Selections.{chosen, in_order}
+use Rattle.redl_select.specs.Selections.{asks_edits, chosen, in_order}
+use Rattle.redl_select.proofs.ChosenLaws.{chosen-unasked}
 use Rattle.redl_kinds.specs.Views.{selection_of}
 use Rattle.redl_kinds.specs.declared.selection.Selection as code
 use Rattle.redl_words.specs.Views.{choices_view}
@@ -80,21 +81,21 @@ word_set {X} before now last number more word first old new was is =
 
 -- ---- one choice more
 
-pub numbers_more : (revisions : List Revision) (choices : List (Word × Selection)) (choice : Word × Selection)
-    → chosen_numbers revisions (choices ++ choice ∷ []) ≡ fold (insert_key nat_cmp) (chosen_numbers revisions choices) (chosen revisions choice.1)
-numbers_more revisions choices choice =
-    ap in_order (flat_map-append (λ (c : Word × Selection). chosen revisions c.1) choices (choice ∷ [])
-    ∙ ap (λ last. flat_map (λ (c : Word × Selection). chosen revisions c.1) choices ++ last) (append-nil (chosen revisions choice.1)))
-    ∙ fold-append (insert_key nat_cmp) [] (flat_map (λ (c : Word × Selection). chosen revisions c.1) choices) (chosen revisions choice.1)
+pub numbers_more : (revisions : List Revision) (edits : List ℕ) (choices : List (Word × Selection)) (choice : Word × Selection)
+    → chosen_numbers revisions edits (choices ++ choice ∷ []) ≡ fold (insert_key nat_cmp) (chosen_numbers revisions edits choices) (chosen revisions edits choice.1)
+numbers_more revisions edits choices choice =
+    ap in_order (flat_map-append (λ (c : Word × Selection). chosen revisions edits c.1) choices (choice ∷ [])
+    ∙ ap (λ last. flat_map (λ (c : Word × Selection). chosen revisions edits c.1) choices ++ last) (append-nil (chosen revisions edits choice.1)))
+    ∙ fold-append (insert_key nat_cmp) [] (flat_map (λ (c : Word × Selection). chosen revisions edits c.1) choices) (chosen revisions edits choice.1)
 
-pub word_more : (revisions : List Revision) (choices : List (Word × Selection)) (choice : Word × Selection) (number : ℕ)
-    → word_on revisions (choices ++ choice ∷ []) number ≡ (if is_among (chosen revisions choice.1) number then Some choice.0 else word_on revisions choices number)
-word_more revisions choices choice number =
-    ap (λ cs. option_map (λ (c : Word × Selection). c.0) (find (λ (c : Word × Selection). is_among (chosen revisions c.1) number) cs)) (reverse-append choices (choice ∷ []))
-    ∙ by (is_among (chosen revisions choice.1) number)
+pub word_more : (revisions : List Revision) (edits : List ℕ) (choices : List (Word × Selection)) (choice : Word × Selection) (number : ℕ)
+    → word_on revisions edits (choices ++ choice ∷ []) number ≡ (if is_among (chosen revisions edits choice.1) number then Some choice.0 else word_on revisions edits choices number)
+word_more revisions edits choices choice number =
+    ap (λ cs. option_map (λ (c : Word × Selection). c.0) (find (λ (c : Word × Selection). is_among (chosen revisions edits c.1) number) cs)) (reverse-append choices (choice ∷ []))
+    ∙ by (is_among (chosen revisions edits choice.1) number)
   where
-    by : (b : Bool) → option_map (λ (c : Word × Selection). c.0) (cond b (Some choice) (find (λ (c : Word × Selection). is_among (chosen revisions c.1) number) (reverse choices)))
-        ≡ (if b then Some choice.0 else word_on revisions choices number)
+    by : (b : Bool) → option_map (λ (c : Word × Selection). c.0) (cond b (Some choice) (find (λ (c : Word × Selection). is_among (chosen revisions edits c.1) number) (reverse choices)))
+        ≡ (if b then Some choice.0 else word_on revisions edits choices number)
     by true = refl
     by false = refl
 
@@ -127,3 +128,49 @@ pub choices_more : (choices : List (Word × code.Selection)) (i : ℕ) (choice :
 choices_more choices i choice within is =
     ap choices_view (take_more choices i choice within ∙ ap (λ c. take i choices ++ c ∷ []) (sym is))
     ∙ map-append (λ (c : Word × code.Selection). (c.0, selection_of c.1)) (take i choices) (choice ∷ [])
+
+-- ---- choices of which none asks for edits
+
+-- none of them in the other order does
+any-reverse : {X : Type 0} (p : X → Bool) (xs : List X) → list_any p xs ≡ false → list_any p (reverse xs) ≡ false
+any-reverse p [] none = refl
+any-reverse p (x ∷ xs) none =
+    let parts = or_parts (p x) (list_any p xs) none in
+    ap (list_any p) (reverse-append (x ∷ []) xs) ∙ list_any-append p (reverse xs) (x ∷ [])
+    ∙ or_from (list_any p (reverse xs)) (list_any p (x ∷ [])) (any-reverse p xs parts.1) (or_from (p x) false parts.0 refl)
+
+module _ (revisions : List Revision) (edits others : List ℕ) where
+  numbers-unasked : (choices : List (Word × Selection)) → ask_edits choices ≡ false
+      → flat_map (λ (c : Word × Selection). chosen revisions edits c.1) choices ≡ flat_map (λ (c : Word × Selection). chosen revisions others c.1) choices
+  numbers-unasked [] none = refl
+  numbers-unasked (choice ∷ choices) none =
+      let parts = or_parts (asks_edits choice.1) (ask_edits choices) none in
+      rw (chosen-unasked revisions edits others choice.1 parts.0, numbers-unasked choices parts.1) refl
+
+  found-unasked : (number : ℕ) (choices : List (Word × Selection)) → ask_edits choices ≡ false
+      → find (λ (c : Word × Selection). is_among (chosen revisions edits c.1) number) choices ≡ find (λ (c : Word × Selection). is_among (chosen revisions others c.1) number) choices
+  found-unasked number [] none = refl
+  found-unasked number (choice ∷ choices) none =
+      let parts = or_parts (asks_edits choice.1) (ask_edits choices) none in
+      rw (chosen-unasked revisions edits others choice.1 parts.0, found-unasked number choices parts.1) refl
+
+  word-unasked : (choices : List (Word × Selection)) → ask_edits choices ≡ false → (number : ℕ) → word_on revisions edits choices number ≡ word_on revisions others choices number
+  word-unasked choices none number =
+      ap (option_map (λ (c : Word × Selection). c.0)) (found-unasked number (reverse choices) (any-reverse (λ (c : Word × Selection). asks_edits c.1) choices none))
+
+  -- by any edits they make the same entries
+  pub entries-unasked : (reviewer : List ℕ) (rank seq : ℕ) (choices : List (Word × Selection)) → ask_edits choices ≡ false
+      → chosen_entries reviewer rank seq revisions edits choices ≡ chosen_entries reviewer rank seq revisions others choices
+  entries-unasked reviewer rank seq choices none =
+      made_same (entry_with reviewer rank seq) (word_on revisions edits choices) (word_on revisions others choices) (word-unasked choices none) (chosen_numbers revisions edits choices)
+      ∙ ap (λ (numbers : List ℕ). filter_map (λ number. option_map (entry_with reviewer rank seq number) (word_on revisions others choices number)) (in_order numbers)) (numbers-unasked choices none)
+
+-- edits that are looked for where a choice asks for them make the entries of all of them
+pub entries-asked : (revisions : List Revision) (edits : List ℕ) (reviewer : List ℕ) (rank seq : ℕ) (choices : List (Word × Selection))
+    → chosen_entries reviewer rank seq revisions (if ask_edits choices then edits else []) choices ≡ chosen_entries reviewer rank seq revisions edits choices
+entries-asked revisions edits reviewer rank seq choices = by (ask_edits choices) refl
+  where
+    by : (asked : Bool) → ask_edits choices ≡ asked
+        → chosen_entries reviewer rank seq revisions (if asked then edits else []) choices ≡ chosen_entries reviewer rank seq revisions edits choices
+    by true is = refl
+    by false is = entries-unasked revisions [] edits reviewer rank seq choices is

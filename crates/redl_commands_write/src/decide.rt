@@ -62,8 +62,7 @@ fn admit_choices<'a, 'b>(
     let Some(seq) = greatest.checked_add(1) else {
         return Err(Failure::Cause(Cause::NoSequence(reviewer.as_bytes())));
     };
-    let index = admitted.session.index();
-    let entries = choose_entries(alloc, index, reviewer, rank, seq, choices)?;
+    let entries = choose_entries(alloc, &admitted.session, reviewer, rank, seq, choices)?;
     admitted.admit(entries)?;
     Ok(())
 }

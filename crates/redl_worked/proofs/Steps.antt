@@ -60,7 +60,7 @@ revisions = revision 1 (kinds.Content trace.Ins) (codes "Ann") ∷ revision 2 (k
 
 -- what Ann chooses, with the sequence number 7
 abbrev choose : List (Word × Selection) → List Entry
-choose choices = chosen_entries (codes "Ann") 0 7 revisions choices
+choose choices = chosen_entries (codes "Ann") 0 7 revisions [] choices
 
 -- a file is there or not, and is within its limit or not
 files_have_limits :

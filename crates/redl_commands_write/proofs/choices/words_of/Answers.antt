@@ -14,6 +14,7 @@ use Rattle.redl_commands_write.proofs.choices.words_of.Goals as goal
 pub loop-word-preserved : goal.loop-word-preserved
 loop-word-preserved c =
     let index = c.args.index.now in
+    let edits = c.args.edits.now in
     let choices = c.args.choices.now in
     let i = c.loop-word.word-index in
     let item = c.loop-word-item.result in
@@ -24,10 +25,10 @@ loop-word-preserved c =
     record {
       numbers = c.in_ok-set_words.ensures.numbers
           ∙ ap (fold (insert_key nat_cmp) (keys c.loop-word.words)) numbers
-          ∙ ap (λ ks. fold (insert_key nat_cmp) ks (chosen index choice.1)) c.loop-word.invariant.numbers
-          ∙ sym (numbers_more index before choice) ∙ ap (chosen_numbers index) (sym more);
+          ∙ ap (λ ks. fold (insert_key nat_cmp) ks (chosen index edits choice.1)) c.loop-word.invariant.numbers
+          ∙ sym (numbers_more index edits before choice) ∙ ap (chosen_numbers index edits) (sym more);
       words = λ number. c.in_ok-set_words.ensures.words number
           ∙ ap (λ (ns : List ℕ). if is_among ns number then Some choice.0 else get nat_cmp c.loop-word.words number) numbers
-          ∙ ap (λ (w : Option Word). if is_among (chosen index choice.1) number then Some choice.0 else w) (c.loop-word.invariant.words number)
-          ∙ sym (word_more index before choice number) ∙ ap (λ cs. word_on index cs number) (sym more);
+          ∙ ap (λ (w : Option Word). if is_among (chosen index edits choice.1) number then Some choice.0 else w) (c.loop-word.invariant.words number)
+          ∙ sym (word_more index edits before choice number) ∙ ap (λ cs. word_on index edits cs number) (sym more);
     }
