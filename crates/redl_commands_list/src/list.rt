@@ -9,6 +9,8 @@ ghost use Rattle.redl_commands.specs.Views.{writing_view};
 ghost use Rattle.redl_inputs.specs.Views.{admission_view, result_view};
 ghost use Rattle.redl_io.specs.Limits.{journal_bytes};
 ghost use Rattle.redl_commands.specs.Writing.{outcome_of};
+ghost use Rattle.redl_commands_shown.specs.Shown.{shown_revisions};
+ghost use Rattle.redl_edits.specs.Edits.{package_edits};
 ghost use Rattle.redl_excerpts.specs.Details.{IsDetail};
 ghost use Rattle.redl_remarks.specs.Remarked.{remarked_details};
 ghost use Rattle.redl_formats.specs.Formats.{IsListed, without_named};
@@ -16,8 +18,8 @@ ghost use Rattle.redl_listing.specs.Rows.{shown_rows, shows_details, told_rows};
 ghost use Rattle.redl_opc.specs.Shape.{parts_of};
 ghost use Rattle.redl_words.specs.Views.{onlys_view};
 
-use crate::shown::shown_revisions;
-use redl_commands::{Output, Writing};
+use crate::shown::{ask_edits, shown_revisions};
+use redl_commands::{Output, Writing, edits_if};
 use redl_excerpts::Detail;
 use redl_index::Index;
 use redl_inputs::{Admitted, name_of, open_package, read_package};
@@ -141,7 +143,7 @@ fn told_of(
     ensures utf8 { IfOk result (λ told. All IsDetail told.details.items) }
 {
     let verdicts = session.verdicts()?;
-    let shown = shown_revisions(alloc, only, session.index().revisions(), &verdicts)?;
+    let shown = shown_of(alloc, only, &session, &verdicts)?;
     let details = details_of(alloc, name, &session, &shown)?;
     Ok(ListedSession {
         index: session.into_index(),
@@ -149,6 +151,22 @@ fn told_of(
         shown,
         details,
     })
+}
+
+// Which revisions of a session with these verdicts are shown. Edits are looked for where something that is wanted depends on them.
+fn shown_of(
+    alloc: Global,
+    only: &[Only],
+    session: &Session,
+    verdicts: &[Verdict],
+) -> Result<Vec<bool>, AllocError>
+    requires { length verdicts.now ≡ length session.now.revisions }
+    ensures { IfOk result (λ shown. shown.items
+        ≡ shown_revisions (package_edits session.now.nodes session.now.revisions) (onlys_view only.now) session.now.revisions verdicts.now) }
+{
+    let edits = edits_if(alloc, ask_edits(only), session)?;
+    let shown = shown_revisions(alloc, &edits, only, session.index().revisions(), verdicts)?;
+    Ok(shown)
 }
 
 // The listing of what is shown of this, in the format at this place, which it takes.

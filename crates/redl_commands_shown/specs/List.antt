@@ -7,6 +7,7 @@ use Rattle.redl_inputs.specs.Readers.{Reader}
 use Rattle.redl_inputs.specs.Steps.{◌>>=◌}
 use Rattle.redl_remarks.specs.Remarked.{remarked_details}
 use Rattle.redl_commands.specs.Writing.{Writing}
+use Rattle.redl_edits.specs.Edits.{package_edits}
 use Rattle.redl_excerpts.specs.declared.detail.Detail.{Detail}
 use Rattle.redl_io.specs.Shelf.{Files}
 use Rattle.redl_join.specs.declared.verdict.Verdict.{Verdict}
@@ -31,7 +32,7 @@ session_verdicts state = verdicts_of state.book (length state.revisions)
 
 -- which of a session's revisions each of what is wanted shows
 abbrev pub session_shown : List Only → SessionState → List Bool
-session_shown wanted state = shown_revisions wanted state.revisions (session_verdicts state)
+session_shown wanted state = shown_revisions (package_edits state.nodes state.revisions) wanted state.revisions (session_verdicts state)
 
 -- the details of those that are shown, where the format shows details
 unfoldable pub session_details : List ℕ → List Only → SessionState → List Detail

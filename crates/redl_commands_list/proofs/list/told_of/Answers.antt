@@ -3,10 +3,10 @@ use Rattle.redl_commands_shown.specs.List.{session_details}
 use Rattle.redl_commands_list.proofs.FormatLaws.{verdicts_for}
 use Rattle.redl_commands_list.proofs.list.told_of.Goals as goal
 
-pub shown_revisions-requires : goal.shown_revisions-requires
-shown_revisions-requires c =
+pub shown_of-requires : goal.shown_of-requires
+shown_of-requires c =
     let state = c.args.session in
-    ap length c.deref.ensures.value ∙ verdicts_for state.book (length state.revisions) c.in_ok-verdicts.verdicts.items c.in_ok-verdicts.ensures ∙ sym (ap length (c.revisions.ensures.value ∙ c.index.ensures))
+    ap length c.deref.ensures.value ∙ verdicts_for state.book (length state.revisions) c.in_ok-verdicts.verdicts.items c.in_ok-verdicts.ensures
 
 pub returns-clause-details : goal.returns-clause-details
 unfolding session_details

@@ -6,4 +6,4 @@ use Rattle.redl_commands_list.proofs.shown.shown_revisions.Given as goal
 -- the answers so far and those of the rest are all of them
 abbrev pub invariant-loop-place : goal.invariant-loop-place
 invariant-loop-place l =
-    l.shown.items ++ shown_revisions (onlys_view l.wanted) (drop l.place l.revisions) (drop l.place l.verdicts) ≡ shown_revisions (onlys_view l.wanted) l.revisions l.verdicts
+    l.shown.items ++ shown_revisions l.edits (onlys_view l.wanted) (drop l.place l.revisions) (drop l.place l.verdicts) ≡ shown_revisions l.edits (onlys_view l.wanted) l.revisions l.verdicts
