@@ -1,15 +1,11 @@
 -- What a page shows, where its parts are the same.
-use Rattle.std.proofs.Common.{◌≡◌, ◌∙◌, refl, ap, Bool, List, [], ◌∷◌, length, map, Option, ℕ}
+use Rattle.std.proofs.Common.{◌≡◌, ◌∙◌, refl, ap, Bool, List, [], ◌∷◌, length, map, ℕ}
 use Rattle.std.proofs.lemmas.List.{length-map}
-use Rattle.redl_clauses.specs.Clauses.{clauses_of}
-use Rattle.redl_commands_shown.specs.Page.{item_words, session_said}
-use Rattle.redl_excerpts.specs.Properties.{changed_lines}
+use Rattle.redl_commands_shown.specs.Page.{Known, item_words, known_of, session_said}
 use Rattle.redl_index.specs.declared.revision.Revision.{Revision}
 use Rattle.redl_journal.specs.declared.entry.Entry.{Entry}
 use Rattle.redl_page.specs.Page.{Heading, Shown}
 use Rattle.redl_page.specs.declared.item.ItemWords.{ItemWords}
-use Rattle.redl_places.specs.Places.{place_on}
-use Rattle.redl_places.specs.declared.place.StoryPlace.{StoryPlace}
 use Rattle.redl_session.specs.Sessions.{SessionState}
 use Rattle.redl_tree.specs.Model.Nodes.{Nodes}
 
@@ -24,13 +20,13 @@ same_shown nodes other revisions others locked flags said lines book more digest
 
 pub session_said-length : (state : SessionState) → length (session_said state) ≡ length state.revisions
 unfolding session_said
-session_said-length state =
-    length-map state.revisions (item_words (clauses_of state.nodes (length state.revisions)) (place_on state.nodes) (changed_lines state.nodes state.revisions))
+session_said-length state = length-map state.revisions (item_words (known_of state))
 
--- the same places make the same items
-pub items-same : (clauses : List (Option (List ℕ))) (places others : ℕ → StoryPlace) (lines : List (List ℕ)) (revisions : List Revision) → ((v : ℕ) → places v ≡ others v)
-    → map (item_words clauses places lines) revisions ≡ map (item_words clauses others lines) revisions
-items-same clauses places others lines [] same = refl
-items-same clauses places others lines (revision ∷ later) same =
-    ap (λ (place : StoryPlace). item_words clauses (λ v. place) lines revision ∷ map (item_words clauses places lines) later) (same revision.number)
-    ∙ ap (λ (items : List ItemWords). item_words clauses others lines revision ∷ items) (items-same clauses places others lines later same)
+-- knowing the same of each revision, one says the same of them
+pub items-same : (known other : Known) → known.clauses ≡ other.clauses → known.lines ≡ other.lines → known.edits ≡ other.edits → known.ids ≡ other.ids
+    → ((v : ℕ) → known.place_on v ≡ other.place_on v) → (revisions : List Revision) → map (item_words known) revisions ≡ map (item_words other) revisions
+items-same known other clauses lines edits ids places [] = refl
+items-same known other clauses lines edits ids places (revision ∷ later) =
+    let here : item_words known revision ≡ item_words other revision = rw (clauses, lines, edits, ids, places revision.number) refl in
+    ap (λ (item : ItemWords). item ∷ map (item_words known) later) here
+    ∙ ap (λ (items : List ItemWords). item_words other revision ∷ items) (items-same known other clauses lines edits ids places later)

@@ -14,7 +14,7 @@ ghost use Rattle.redl_join.specs.LastWords.{last_words, words_on};
 ghost use Rattle.redl_lines.specs.Ends.{end_view};
 ghost use Rattle.redl_lines.specs.Remarks.{remarks_view};
 ghost use Rattle.redl_page.specs.Page.{heading_with, page_text};
-ghost use Rattle.redl_page.specs.PageViews.{heading_view, shown_by, skin_view};
+ghost use Rattle.redl_page.specs.PageViews.{AreFacts, heading_view, shown_by, skin_view};
 
 use crate::items::items_of;
 use redl_index::Revision;
@@ -23,7 +23,7 @@ use redl_io::{Failed, Shelf, Sink, Staged};
 use redl_join::LastWords;
 use redl_kinds::Lock;
 use redl_lines::{End, Failure, Remarks};
-use redl_page::{Heading, ItemWords, Shown, Skin, write_page};
+use redl_page::{Heading, ItemWords, PageFacts, Shown, Skin, write_page};
 use redl_select::any_holds;
 use redl_session::Session;
 use redl_words::PageCommand;
@@ -40,7 +40,7 @@ pub fn put_page<'a, F: Shelf, O: Sink>(
 ) -> End<'a>
     requires { All IsUtf8 command.now.journals.items }
     ensures { Ends F.told F.faults F.asked shelf.old shelf.new O.told O.faults out.old out.new (files_within journal_bytes command.now.journals.items)
-        (λ reader files. paged reader files (skin_view skin.now) (heading_with command.now.title command.now.rank) command.now.locks.items command.now.journals.items bytes.now)
+        (λ reader files. paged reader files (skin_view skin.now) (heading_with command.now.title command.now.rank command.now.pictures) command.now.locks.items command.now.journals.items bytes.now)
         (end_view result) }
 {
     let heading = heading_of(command);
@@ -52,11 +52,12 @@ pub fn put_page<'a, F: Shelf, O: Sink>(
 
 // What the sender of the page gives.
 fn heading_of(command: &PageCommand) -> Heading<'_>
-    ensures { heading_view result ≡ heading_with command.now.title command.now.rank }
+    ensures { heading_view result ≡ heading_with command.now.title command.now.rank command.now.pictures }
 {
     Heading {
         title: title_of(command),
         rank: command.rank,
+        pictures: command.pictures,
     }
 }
 
@@ -96,7 +97,9 @@ fn show<'a, O: Sink>(
 
 // What a page says besides the rows of the revisions and the words on them.
 #[derive(Drop)]
-struct Facts {
+struct Facts<'a> {
+    // What it shows of the package beside its text.
+    package: PageFacts<'a>,
     // The digest of the package.
     digest: [u8; 32],
     // Whether each revision is locked.
@@ -106,19 +109,22 @@ struct Facts {
 }
 
 // The same of a session with these locks, of whose package this is the digest.
-fn facts_of(
+fn facts_of<'a>(
     alloc: Global,
-    session: &Session<'_>,
+    session: &Session<'a>,
     locks: &[Lock],
     digest: [u8; 32],
-) -> Result<Facts, AllocError>
+) -> Result<Facts<'a>, AllocError>
+    ensures package { IfOk result (λ facts. AreFacts facts.package session.now.nodes) }
     ensures digest { IfOk result (λ facts. facts.digest ≡ digest) }
     ensures locked { IfOk result (λ facts. facts.locked.items ≡ map (is_locked locks.now) session.now.revisions) }
     ensures said { IfOk result (λ facts. facts.said.items ≡ session_said session.now) }
 {
     let locked = locked_revisions(alloc, session.index().revisions(), locks)?;
     let said = items_of(alloc, session)?;
+    let package = PageFacts::of(alloc, session.package())?;
     Ok(Facts {
+        package,
         digest,
         locked,
         said,
@@ -126,14 +132,15 @@ fn facts_of(
 }
 
 // Puts the page of a session with these facts.
-fn put_session<'a, O: Sink>(
-    session: &Session<'_>,
-    facts: &Facts,
+fn put_session<'a, 'p, O: Sink>(
+    session: &Session<'p>,
+    facts: &Facts<'p>,
     heading: Heading<'_>,
     remarks: Remarks,
     skin: &Skin<'_>,
     out: &mut O,
 ) -> End<'a>
+    requires package { AreFacts facts.now.package session.now.nodes }
     requires locked { length facts.now.locked.items ≡ length session.now.revisions }
     requires said { facts.now.said.items ≡ session_said session.now }
     ensures { EndsAlone O.told O.faults out.old out.new
@@ -146,6 +153,7 @@ fn put_session<'a, O: Sink>(
     let page = Shown {
         package: session.package(),
         index: session.index(),
+        facts: &facts.package,
         locked: &facts.locked,
         said: &facts.said,
         book: session.book(),
@@ -185,6 +193,7 @@ fn put_shown<'a, O: Sink>(
     out: &mut O,
 ) -> End<'a>
     requires words { (rev : ℕ) → words_on words.now rev ≡ last_words page.now.book.now rev }
+    requires facts { AreFacts page.now.facts.now page.now.package.now }
     requires locked { length page.now.locked.now ≡ length page.now.index.now }
     requires said { length page.now.said.now ≡ length page.now.index.now }
     ensures { Finishes O.told O.faults out.old out.new
@@ -204,6 +213,7 @@ fn put_staged<O: Sink>(
     out: &mut O,
 ) -> Result<(), Failed>
     requires words { (rev : ℕ) → words_on words.now rev ≡ last_words page.now.book.now rev }
+    requires facts { AreFacts page.now.facts.now page.now.package.now }
     requires locked { length page.now.locked.now ≡ length page.now.index.now }
     requires said { length page.now.said.now ≡ length page.now.index.now }
     ensures all { OnOk result (O.told out.new ≡ append_known (O.told out.old) (page_text (skin_view skin.now) (shown_by page.now))) }

@@ -1,6 +1,7 @@
 -- `page P` with a title, a rank, journals and locks: a page on which a reviewer sees the revisions of the package and decides in a browser.
 use Rattle.std.specs.Prelude.{ℕ, ◌-◌, Bool, List, [], Option, length, map, slice_get, is_some, unwrap_or, Result, Ok, if◌then◌else◌}
 use Rattle.redl_clauses.specs.Clauses.{clause_at, clauses_of}
+use Rattle.redl_edits.specs.Edits.{package_edits}
 use Rattle.redl_excerpts.specs.Properties.{changed_lines}
 use Rattle.redl_inputs.specs.Admission.{Admission, opened}
 use Rattle.redl_inputs.specs.Readers.{Reader}
@@ -14,6 +15,7 @@ use Rattle.redl_page.specs.declared.item.ItemWords.{ItemWords}
 use Rattle.redl_places.specs.Places.{is_document, place_on}
 use Rattle.redl_places.specs.Texts.{place_text}
 use Rattle.redl_places.specs.declared.place.StoryPlace.{StoryPlace}
+use Rattle.redl_remarks.specs.Ids.{remark_ids}
 use Rattle.redl_kinds.specs.declared.lock.Lock.{Lock}
 use Rattle.redl_session.specs.Bars.{bar_of}
 use Rattle.redl_session.specs.Sessions.{SessionState}
@@ -26,18 +28,38 @@ is_locked locks revision = is_some (bar_of locks revision)
 abbrev pub place_said : StoryPlace → List ℕ
 place_said place = if is_document place then [] else place_text place
 
--- what a page says of a revision, by the clauses of all revisions, their places, and the lines on what they change
-abbrev pub item_words : List (Option (List ℕ)) → (ℕ → StoryPlace) → List (List ℕ) → Revision → ItemWords
-item_words clauses place_on lines revision = record {
-  clause = unwrap_or (clause_at clauses (revision.number - 1)) [];
-  place = place_said (place_on revision.number);
-  changed = unwrap_or (slice_get lines (revision.number - 1)) [];
+-- what is known of the revisions of a package: their clauses, their places, the lines on what they change, their edits, and the ids of
+-- the comments on them
+pub record Known : Type 0 where
+  pub clauses : List (Option (List ℕ))
+  pub place_on : ℕ → StoryPlace
+  pub lines : List (List ℕ)
+  pub edits : List ℕ
+  pub ids : List (List ℕ)
+
+-- what a page says of a revision
+abbrev pub item_words : Known → Revision → ItemWords
+item_words known revision = record {
+  clause = unwrap_or (clause_at known.clauses (revision.number - 1)) [];
+  place = place_said (known.place_on revision.number);
+  changed = unwrap_or (slice_get known.lines (revision.number - 1)) [];
+  edit = unwrap_or (slice_get known.edits (revision.number - 1)) 0;
+  remarks = unwrap_or (slice_get known.ids (revision.number - 1)) [];
 }
 
--- the same of each revision of a session
+-- what is known of those of a session
+abbrev pub known_of : SessionState → Known
+known_of state = record {
+  clauses = clauses_of state.nodes (length state.revisions);
+  place_on = place_on state.nodes;
+  lines = changed_lines state.nodes state.revisions;
+  edits = package_edits state.nodes state.revisions;
+  ids = remark_ids state.nodes (length state.revisions);
+}
+
+-- what a page says of each revision of a session
 unfoldable pub session_said : SessionState → List ItemWords
-session_said state =
-    map (item_words (clauses_of state.nodes (length state.revisions)) (place_on state.nodes) (changed_lines state.nodes state.revisions)) state.revisions
+session_said state = map (item_words (known_of state)) state.revisions
 
 -- what the page of a session shows: its package and revisions, which of these are locked, what is said of each of them, the admitted
 -- entries, the digest, and what the sender gives

@@ -14,13 +14,13 @@ returns-in-Ok g c =
     let skin = skin_view c.args.skin.now in
     let made = c.show.ensures.made in
     let admission = admission_view c.in-Ok.admitted in
-    let headed : Reads made (λ _. Ok (page_of skin (heading_with c.args.command.now.title c.args.command.now.rank) c.deref-in-Ok.result.now admission)) =
+    let headed : Reads made (λ _. Ok (page_of skin (heading_with c.args.command.now.title c.args.command.now.rank c.args.command.now.pictures) c.deref-in-Ok.result.now admission)) =
     subst (λ (heading : Heading). Reads made (λ _. Ok (page_of skin heading c.deref-in-Ok.result.now admission))) c.heading_of-heading.ensures c.show.ensures.reads in
-    let shown : Reads made (λ _. Ok (page_of skin (heading_with c.args.command.now.title c.args.command.now.rank) c.args.command.now.locks.items admission)) =
-    subst (λ (locks : List Lock). Reads made (λ _. Ok (page_of skin (heading_with c.args.command.now.title c.args.command.now.rank) locks admission))) c.deref-in-Ok.ensures.value headed in
+    let shown : Reads made (λ _. Ok (page_of skin (heading_with c.args.command.now.title c.args.command.now.rank c.args.command.now.pictures) c.args.command.now.locks.items admission)) =
+    subst (λ (locks : List Lock). Reads made (λ _. Ok (page_of skin (heading_with c.args.command.now.title c.args.command.now.rank c.args.command.now.pictures) locks admission))) c.deref-in-Ok.ensures.value headed in
     record {
       made = made;
-      reads = reads_then_takes (λ admission reader. Ok (page_of skin (heading_with c.args.command.now.title c.args.command.now.rank) c.args.command.now.locks.items admission))
+      reads = reads_then_takes (λ admission reader. Ok (page_of skin (heading_with c.args.command.now.title c.args.command.now.rank c.args.command.now.pictures) c.args.command.now.locks.items admission))
           (rw (c.deref.ensures.value, c.deref-2.ensures.value) at c.in-Ok.ensures) shown;
       finishes = c.show.ensures.finishes;
     }
@@ -28,7 +28,7 @@ returns-in-Ok g c =
 pub returns-in-Err : goal.returns-in-Err
 returns-in-Err g c = record {
   made = Err (failure_view c.in-Err.failure);
-  reads = reads_stops (λ admission reader files. Ok (page_of (skin_view c.args.skin.now) (heading_with c.args.command.now.title c.args.command.now.rank) c.args.command.now.locks.items admission))
+  reads = reads_stops (λ admission reader files. Ok (page_of (skin_view c.args.skin.now) (heading_with c.args.command.now.title c.args.command.now.rank c.args.command.now.pictures) c.args.command.now.locks.items admission))
       (rw (c.deref.ensures.value, c.deref-2.ensures.value) at c.in-Err.ensures);
   finishes = (refl, refl, refl);
 }

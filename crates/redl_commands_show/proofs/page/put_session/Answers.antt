@@ -6,7 +6,7 @@ use Rattle.redl_lines.specs.Ends.{end_view}
 use Rattle.redl_lines.specs.Failures.{no_memory}
 use Rattle.redl_lines.specs.Remarks.{remarks_view}
 use Rattle.redl_page.specs.Page.{Shown, page_text}
-use Rattle.redl_page.specs.PageViews.{heading_view, skin_view}
+use Rattle.redl_page.specs.PageViews.{AreFacts, heading_view, skin_view}
 use Rattle.redl_commands_show.proofs.page.put_session.Goals as goal
 
 pub put_shown-requires-clause-locked : goal.put_shown-requires-clause-locked
@@ -16,6 +16,9 @@ pub put_shown-requires-clause-said : goal.put_shown-requires-clause-said
 put_shown-requires-clause-said g c =
     ap length (c.deref-2.ensures.value ∙ c.requires.said) ∙ session_said-length c.args.session.now
     ∙ sym (ap length c.index.ensures)
+
+pub put_shown-requires-clause-facts : goal.put_shown-requires-clause-facts
+put_shown-requires-clause-facts g c = subst (AreFacts c.args.facts.now.package) (sym c.package.ensures) c.requires.package
 
 pub returns-in_default : goal.returns-in_default
 returns-in_default g c = record {
