@@ -2,7 +2,7 @@
 
 /// The security policy of the page: its own style and script alone, and nothing is ever fetched.
 pub const POLICY: &str =
-    "default-src 'none'; script-src 'sha256-cY+WcBPxkcsJSy17L46uai4YPbKZxFeLlz/jwi+e1fc='; style-src 'sha256-pnpG8VG8UznXJekKloDcZwgmf7s7Dyi5GVMW4O2FyxA='; img-src data:; base-uri 'none'; form-action 'none'; require-trusted-types-for 'script'; trusted-types 'none'";
+    "default-src 'none'; script-src 'sha256-OEz0EUExeT3ZrSsbsbLYmK26bDJF29kkgc6cVeqQGxg='; style-src 'sha256-xai1r4aCEFYqIxs/1Yv9KlVK9Y6M3Xu4qin5fycF2kE='; img-src data:; base-uri 'none'; form-action 'none'; require-trusted-types-for 'script'; trusted-types 'none'";
 
 /// The style sheet of the page.
 pub const STYLE: &str = "/* colours, and what all elements share */
@@ -285,7 +285,7 @@ dialog strong { overflow-wrap: anywhere; }
 }
 @media print {
   body { display: block; height: auto; background: none; }
-  header, aside, dialog { display: none; }
+  header, aside, dialog, .remark-way { display: none; }
   #printed { display: block; font: .8rem/1.4 system-ui, \"Liberation Sans\", sans-serif; }
   main { overflow: visible; padding: 0; }
   section { border: 0; max-width: none; padding: 0 0 0 2.4rem; }
@@ -603,7 +603,7 @@ const [acceptAll, rejectAll] = [\"accept-all\", \"reject-all\"].map((id) => make
 
 function build() {
   person.setAttribute(\"list\", \"known\");
-  const short = [[\"j\", \"next\"], [\"k\", \"back\"], [\"a\", \"accept\"], [\"r\", \"reject\"], [\"e\", \"open edit\"], [\"?\", \"help\"]];
+  const short = [[\"j\", \"next\"], [\"k\", \"back\"], [\"a\", \"accept\"], [\"r\", \"reject\"], [\"e\", \"edit\"], [\"?\", \"help\"]];
   document.body.prepend(make(\"header\", {}, make(\"h1\", {}, ...(title ? [isolated(title), \": changes to decide\"] : [\"Changes to decide\"])), tally, views, openButton, help),
     make(\"p\", { id: \"printed\" }));
   aside.prepend(make(\"div\", { className: \"sign\" }, labelled(\"Your name\", person), known, save, file),

@@ -16,7 +16,7 @@ const [acceptAll, rejectAll] = ["accept-all", "reject-all"].map((id) => make("bu
 
 function build() {
   person.setAttribute("list", "known");
-  const short = [["j", "next"], ["k", "back"], ["a", "accept"], ["r", "reject"], ["e", "open edit"], ["?", "help"]];
+  const short = [["j", "next"], ["k", "back"], ["a", "accept"], ["r", "reject"], ["e", "edit"], ["?", "help"]];
   document.body.prepend(make("header", {}, make("h1", {}, ...(title ? [isolated(title), ": changes to decide"] : ["Changes to decide"])), tally, views, openButton, help),
     make("p", { id: "printed" }));
   aside.prepend(make("div", { className: "sign" }, labelled("Your name", person), known, save, file),
