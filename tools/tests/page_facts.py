@@ -9,6 +9,7 @@ from page_seen import ENTER, IS_OWN, LOCK, REVIEWERS, Seen, example, in_numbered
 import clauses
 
 ROWS = "return [...document.querySelectorAll('aside > ol > li[id]')].map((it) => it.id.replace('revision-', ''))"
+CHOSEN = "return document.querySelector('aside li[aria-current]').id"
 ROW = "return document.querySelector(arguments[0]).innerText.replace(/\\s+/g, ' ')"
 PRESSED = "return [...document.querySelectorAll(arguments[0] + ' button[value]')].map((it) => it.ariaPressed)"
 CLICK = "document.querySelector(arguments[0]).click()"
@@ -40,7 +41,7 @@ def edits_are_rows(driven):
     driven.keys("jja")
     same("a key decides all changes of an edit", seen.words(), {2: "accept", 3: "accept"})
     told("single changes are counted", seen.tally().startswith("2 of 49 decided"), seen.tally())
-    same("and the next row is chosen", seen.run("return document.querySelector('aside li[aria-current]').id"), "revision-4")
+    same("and the next row is chosen", seen.run(CHOSEN), "revision-4")
     driven.keys("ka")
     same("the same word again takes it away", seen.words(), {})
     seen.run(CLICK, "#edit-13 button[value=reject]")
@@ -50,7 +51,7 @@ def edits_are_rows(driven):
     same("undo takes an edit back as one", seen.words(), {2: "accept", 3: "accept"})
     marked = "return [...document.querySelectorAll('main [aria-current]')].map((it) => it.dataset.revision)"
     seen.run(CLICK, "main [data-revision='3']")
-    same("a change that is clicked in the document chooses its edit, and all of it is marked", [seen.run("return current.id"), seen.run(marked)], ["edit-2", ["2", "3"]])
+    same("a change that is clicked in the document chooses its edit, and all of it is marked", [seen.run(CHOSEN), seen.run(marked)], ["edit-2", ["2", "3"]])
     seen.name("Eve Stone")
     package = reading.Package(example("contract.xml"))
     same("the journal has the single changes", seen.saved("Eve Stone"), reading.journal(package, [("Eve Stone", 1, it, "accept") for it in (2, 3)]))
@@ -68,7 +69,7 @@ def edits_open(driven):
     same("the row of the edit shows that", seen.run(PRESSED, "#edit-2"), ["mixed", "false", "false"])
     told("and says it in words", "Its changes differ: 1 accepted, 1 not decided." in seen.run(ROW, "#edit-2"), seen.run(ROW, "#edit-2"))
     driven.keys("e")
-    same("closed again, the edit is chosen", [seen.run(ROWS)[:3], seen.run("return current.id")], [["1", "edit-2", "4"], "edit-2"])
+    same("closed again, the edit is chosen", [seen.run(ROWS)[:3], seen.run(CHOSEN)], [["1", "edit-2", "4"], "edit-2"])
     driven.keys("r")
     told("its word is for what isn't decided", seen.words() == {2: "accept", 3: "reject"} and "others keep their words" in seen.line(), seen.line())
     driven.keys("r")
@@ -95,19 +96,19 @@ def edits_far_apart(driven):
     bob = '<w:ins w:author="Bob"><w:r><w:t>x</w:t></w:r></w:ins>'
     body = apart(bold % "a", '<w:ins w:author="Ann"><w:r><w:t xml:space="preserve"> </w:t></w:r>%s</w:ins>' % bob) + apart(bold % "b", bob + bob) + apart(bold % "c")
     seen = Seen(driven, made(driven, "apart", in_package(body)), has_edits=True)
-    edits = seen.run("return rows.map((it) => it.dataset.edit)")
-    same("two formats with one change between them are one edit", edits, ["1", "2", "3", "1", "5", "5", "7"])
     driven.keys("je")
     same("an open edit has its changes together", seen.run(ROWS)[:4], ["edit-1", "1", "4", "2"])
     seen.run(CLICK, "#together")
+    edits = seen.run("return [...document.querySelectorAll('aside > ol > li')].map((it) => it.dataset.edit)")
+    same("two formats with one change between them are one edit", edits, ["1", "2", "3", "1", "5", "5", "7"])
     same("each by itself stands in its place", seen.run(ROWS), [str(it) for it in range(1, 8)])
     seen.run(CLICK, "#together")
     same("and together again", seen.run(ROWS)[:4], ["edit-1", "1", "4", "2"])
-    seen.run("redline.choose(4)")
+    seen.outside("redline.choose(4)")
     same("a page around this one chooses a change itself", seen.chosen(), 4)
     driven.keys("e")
-    same("closed, the edit is chosen", [seen.run("return current.id"), seen.run(ROWS)[:2]], ["edit-1", ["edit-1", "2"]])
-    seen.run("redline.choose(4)")
+    same("closed, the edit is chosen", [seen.run(CHOSEN), seen.run(ROWS)[:2]], ["edit-1", ["edit-1", "2"]])
+    seen.outside("redline.choose(4)")
     same("and it is opened for the change", [seen.chosen(), seen.run(ROWS)[:3]], [4, ["edit-1", "1", "4"]])
 
 
