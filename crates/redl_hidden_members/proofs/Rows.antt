@@ -67,6 +67,11 @@ in_a_box : found_in 1 (opened "p" (opened "r" (opened "rPr" (closed "vanish" "")
 unfolding found_in inserted longest_chain attributes_of attribute_in attribute_at name_at word_at char_at name_end name_step may_start may_follow is_name_start is_name_character is_space equated_at quoted_at field_at quote_at is_value
 in_a_box = refl
 
+-- a change of a shown run that holds a text box with hidden text in it
+of_a_box : found_in 1 (opened "p" (opened "r" (opened "rPr" (change_of 1 no_nodes) ⊕ opened "pict" (opened "txbxContent" (opened "p" (hidden_run "a")))))) ≡ true ∷ []
+unfolding found_in hidden_run change_of longest_chain attributes_of attribute_in attribute_at name_at word_at char_at name_end name_step may_start may_follow is_name_start is_name_character is_space equated_at quoted_at field_at quote_at is_value
+of_a_box = refl
+
 -- by the style of the paragraph
 by_style : (let styles = hidden_styles (opened_with "style" " w:styleId=\"H\"" (opened "rPr" (closed "vanish" ""))) in
     let body = opened "p" (opened "pPr" (closed "pStyle" " w:val=\"H\"") ⊕ inserted 1 (run "a")) in

@@ -61,12 +61,28 @@ or-assoc false b c = refl
 abbrev with_any : Walk → Bool → Walk
 with_any w any = record { hidden = w.hidden; waiting = w.waiting; any = any }
 
-abbrev stands : Around → Bool → Bool → Bool → Around
-stands at in_mark loud text = record { paragraph = at.paragraph; mark = at.mark; in_mark = in_mark; run = at.run; loud = loud; text = text }
+-- where nothing waits, if the element is a run
+abbrev emptied : Bool → Walk → Walk
+emptied run w = record { hidden = w.hidden; waiting = if run then [] else w.waiting; any = w.any }
+
+either : (run : Bool) (w : Walk) (any : Bool) → (if run then record { hidden = w.hidden; waiting = []; any = any } else with_any w any) ≡ with_any (emptied run w) any
+either true w any = refl
+either false w any = refl
+
+-- nothing that waits is found by idle elements
+closed : (run : Bool) (w : Walk) (any : Bool)
+    → (if run then owner_ended false w (with_any (emptied run w) any) else with_any (emptied run w) (w.any || any)) ≡ with_any w (w.any || any)
+closed true w true = refl
+closed true w false = refl
+closed false w any = refl
+
+abbrev stands : Around → Bool → Bool → Bool → Bool → Around
+stands at in_mark of_run loud text = record { paragraph = at.paragraph; mark = at.mark; in_mark = in_mark; of_run = of_run; run = at.run; loud = loud; text = text }
 
 module _ (in_run : Bool) (tag : Tag) (i : Idle in_run tag) where
-  no_owner : is_owner tag ≡ false
-  no_owner = names_none ("p" ∷ "tr" ∷ "tc" ∷ "tbl" ∷ []) in_run refl tag i
+  -- a run alone
+  owner_is : is_owner tag ≡ is "r" tag
+  owner_is = ap (λ n. is "r" tag || n) (names_none ("p" ∷ "tr" ∷ "tc" ∷ "tbl" ∷ []) in_run refl tag i) ∙ or-false (is "r" tag)
 
   unit_same : (at : Around) → unit_is_hidden at tag ≡ unit_is_hidden at (of_w tag.local)
   unit_same at = ap (λ s. at.run && (at.loud && (s && is_unit_name tag.local))) i.space
@@ -77,10 +93,13 @@ module _ (in_run : Bool) (tag : Tag) (i : Idle in_run tag) where
 
   other_same : (at : Around) → in_other at tag ≡ in_idle at tag.local
   other_same at =
-      ap (λ (b : Bool). stands at (if b then at.mark else (is "rPr" tag && at.in_mark)) (at.loud && not (is_quiet tag)) (holds_text tag)) (has-not "pPr" in_run tag i refl)
-      ∙ ap (λ (b : Bool). stands at (b && at.in_mark) (at.loud && not (is_quiet tag)) (holds_text tag)) (name_same in_run tag i (codes "rPr"))
-      ∙ ap (λ (q : Bool). stands at (is "rPr" (of_w tag.local) && at.in_mark) (at.loud && not q) (holds_text tag)) (quiet_same in_run tag i)
-      ∙ ap (stands at (is "rPr" (of_w tag.local) && at.in_mark) (at.loud && not (is "rPr" (of_w tag.local)))) text_same
+      let loud = at.loud && not (is_quiet tag) in
+      let text = holds_text tag in
+      let own = is "rPr" (of_w tag.local) in
+      ap (λ (b : Bool). stands at (if b then at.mark else (is "rPr" tag && at.in_mark)) (is "rPr" tag && at.of_run) loud text) (has-not "pPr" in_run tag i refl)
+      ∙ ap (λ (b : Bool). stands at (b && at.in_mark) (b && at.of_run) loud text) (name_same in_run tag i (codes "rPr"))
+      ∙ ap (λ (q : Bool). stands at (own && at.in_mark) (own && at.of_run) (at.loud && not q) text) (quiet_same in_run tag i)
+      ∙ ap (stands at (own && at.in_mark) (own && at.of_run) (at.loud && not own)) text_same
 
   inside_same : (styles : HiddenStyles) (at : Around) (kids : Nodes) → inside styles at tag kids ≡ inside_idle styles at tag.local kids
   inside_same styles at kids =
@@ -89,16 +108,22 @@ module _ (in_run : Bool) (tag : Tag) (i : Idle in_run tag) where
       ∙ ap (λ (b : Bool). if b then hidden else in_other at tag) (name_same in_run tag i (codes "r"))
       ∙ ap (λ (o : Around). if is "r" (of_w tag.local) then hidden else o) (other_same at)
 
-  begun_same : (at : Around) (properties kids : Nodes) (w : Walk) → begun at properties tag kids w ≡ with_any w (unit_is_hidden at (of_w tag.local))
+  begun_same : (at : Around) (properties kids : Nodes) (w : Walk) → begun at properties tag kids w ≡ with_any (emptied (is "r" tag) w) (unit_is_hidden at (of_w tag.local))
   begun_same at properties kids w =
-      ap (λ (b : Bool). if b then record { hidden = w.hidden; waiting = []; any = false } else with_any (noted at properties tag kids w) (unit_is_hidden at tag)) no_owner
-      ∙ ap (λ (k : Kind). with_any (if is_found at properties kids k then record w { hidden = tell tag.rev w.hidden } else if waits k then record w { waiting = w.waiting ++ tag.rev ∷ [] } else w) (unit_is_hidden at tag)) i.kind
-      ∙ ap (with_any w) (unit_same at)
+      let unit = unit_is_hidden at tag in
+      ap (λ (b : Bool). if b then record { hidden = w.hidden; waiting = []; any = unit } else with_any (noted at properties tag kids w) unit) owner_is
+      ∙ ap (λ (k : Kind). if is "r" tag then record { hidden = w.hidden; waiting = []; any = unit }
+      else with_any (if is_found at properties kids k then record w { hidden = tell tag.rev w.hidden } else if waits at k then record w { waiting = w.waiting ++ tag.rev ∷ [] } else w) unit) i.kind
+      ∙ either (is "r" tag) w unit
+      ∙ ap (with_any (emptied (is "r" tag) w)) (unit_same at)
 
-  ended_same : (end : Bool) (w below : Walk) → ended end tag w below ≡ with_any below (w.any || below.any)
-  ended_same end w below =
-      ap (λ (b : Bool). if b then owner_ended end w below else other_ended tag w below) no_owner
-      ∙ ap (λ (k : Kind). record { hidden = if is_content k && below.any then tell tag.rev below.hidden else below.hidden; waiting = below.waiting; any = w.any || below.any }) i.kind
+  ended_same : (at : Around) (w : Walk) (any : Bool) → ended (end_is_hidden tag at) tag w (with_any (emptied (is "r" tag) w) any) ≡ with_any w (w.any || any)
+  ended_same at w any =
+      let below = with_any (emptied (is "r" tag) w) any in
+      ap (λ (p : Bool). ended (p && (at.loud && at.mark)) tag w below) (has-not "p" in_run tag i refl)
+      ∙ ap (λ (b : Bool). if b then owner_ended false w below else other_ended tag w below) owner_is
+      ∙ ap (λ (k : Kind). if is "r" tag then owner_ended false w below else record { hidden = if is_content k && below.any then tell tag.rev below.hidden else below.hidden; waiting = below.waiting; any = w.any || below.any }) i.kind
+      ∙ closed (is "r" tag) w any
 
 -- ---- idle nodes
 
@@ -133,12 +158,12 @@ idle_walked in_run within (element tag kids rest) properties w h =
     let unit = unit_is_hidden at (of_w tag.local) in
     let held = is_filled (shows unit_rule inner kids) in
     let later = is_filled (shows unit_rule within rest) in
-    let met = with_any w unit in
+    let met = with_any (emptied (is "r" tag) w) unit in
     let end = end_is_hidden tag (inside styles at tag kids) in
     ap (λ (v : Walk). walked styles at properties rest (ended end tag w (walked styles (inside styles at tag kids) kids kids v))) (begun_same in_run tag p.own at properties kids w)
     ∙ ap (λ (a : Around). walked styles at properties rest (ended end tag w (walked styles a kids kids met))) (inside_same in_run tag p.own styles at kids)
     ∙ ap (λ (v : Walk). walked styles at properties rest (ended end tag w v)) (idle_walked (is "r" tag) inner kids kids met p.below)
-    ∙ ap (walked styles at properties rest) (ended_same in_run tag p.own end w (with_any w (unit || held)))
+    ∙ ap (walked styles at properties rest) (ended_same in_run tag p.own (inside styles at tag kids) w (unit || held))
     ∙ idle_walked in_run within rest properties (with_any w (w.any || (unit || held))) p.later
     ∙ ap (with_any w) (or-assoc w.any (unit || held) later)
     ∙ ap (λ a. with_any w (w.any || a)) (sym (filled-parts unit (shows unit_rule inner kids) (shows unit_rule within rest)))

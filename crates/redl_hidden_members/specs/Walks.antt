@@ -15,7 +15,7 @@ use Rattle.redl_hidden_members.specs.Around.{inside}
 use Rattle.redl_hidden_members.specs.Units.{is_unit}
 use Rattle.redl_hidden_members.specs.declared.around.Around.{Around}
 
--- For each revision, whether a member was found; the revisions that wait for the end of their row, cell, paragraph or table; and whether a
+-- For each revision, whether a member was found; the revisions that wait for the end of their row, cell, run, paragraph or table; and whether a
 -- hidden unit was met since the element began that is looked at.
 pub record Walk : Type 0 where
   pub hidden : List Bool
@@ -49,22 +49,22 @@ is_found at properties kids (Cell trace) = at.run
 is_found at properties kids (Change props.Run) = at.run || (at.in_mark || changes_vanish properties kids)
 is_found at properties kids (Change _) = at.run
 
--- whether it holds all units of its row, cell, paragraph or table, which end later
-abbrev pub waits : Kind → Bool
-waits Plain = false
-waits Marker = false
-waits (Content trace) = false
-waits (Mark trace) = false
-waits (Row trace) = true
-waits (Cell trace) = true
-waits (Change props.Run) = false
-waits (Change props.Sect) = false
-waits (Change _) = true
+-- whether it holds all units of its row, cell, run, paragraph or table, which end later
+abbrev pub waits : Around → Kind → Bool
+waits at Plain = false
+waits at Marker = false
+waits at (Content trace) = false
+waits at (Mark trace) = false
+waits at (Row trace) = true
+waits at (Cell trace) = true
+waits at (Change props.Run) = at.of_run
+waits at (Change props.Sect) = false
+waits at (Change _) = true
 
 abbrev pub noted : Around → Nodes → Tag → Nodes → Walk → Walk
 noted at properties tag kids w =
     if is_found at properties kids tag.kind then record w { hidden = tell tag.rev w.hidden }
-    else if waits tag.kind then record w { waiting = w.waiting ++ tag.rev ∷ [] }
+    else if waits at tag.kind then record w { waiting = w.waiting ++ tag.rev ∷ [] }
     else w
 
 -- ---- units
@@ -84,9 +84,9 @@ bytes_walked at b w = record w { any = w.any || is_filled (if is_hidden_text at 
 
 -- ---- elements
 
--- what rows, cells, tables and paragraphs hold is all known at their ends
+-- what rows, cells, tables, paragraphs and runs hold is all known at their ends
 abbrev pub is_owner : Tag → Bool
-is_owner tag = is_any ("p" ∷ "tr" ∷ "tc" ∷ "tbl" ∷ []) tag
+is_owner tag = is "r" tag || is_any ("p" ∷ "tr" ∷ "tc" ∷ "tbl" ∷ []) tag
 
 abbrev pub is_content : Kind → Bool
 is_content (Content trace) = true
@@ -95,10 +95,10 @@ is_content _ = false
 -- where the kids of an element begin
 abbrev pub begun : Around → Nodes → Tag → Nodes → Walk → Walk
 begun at properties tag kids w =
-    if is_owner tag then record { hidden = w.hidden; waiting = []; any = false }
+    if is_owner tag then record { hidden = w.hidden; waiting = []; any = unit_is_hidden at tag }
     else record (noted at properties tag kids w) { any = unit_is_hidden at tag }
 
--- the end of a row, a cell, a table or a paragraph, whose own end is hidden or not
+-- the end of a row, a cell, a table, a run or a paragraph, whose own end is hidden or not
 abbrev pub owner_ended : Bool → Walk → Walk → Walk
 owner_ended end w below = record {
   hidden = tell_all_if (below.any || end) below.waiting below.hidden;

@@ -19,6 +19,8 @@ pub(crate) struct Around {
     pub mark: bool,
     /// They are properties of a mark that is hidden.
     pub in_mark: bool,
+    /// They are kids of a run, or its properties.
+    pub of_run: bool,
     /// They are in a hidden run.
     pub run: bool,
     /// No ancestor holds properties.
@@ -35,6 +37,7 @@ pub(crate) fn start() -> Around
         paragraph: false,
         mark: false,
         in_mark: false,
+        of_run: false,
         run: false,
         loud: true,
         text: false,
@@ -63,6 +66,7 @@ impl Around {
             paragraph,
             mark: self.run || styles.mark_hides(paragraph, elem),
             in_mark: false,
+            of_run: false,
             run: self.run,
             loud: self.loud,
             text: false,
@@ -77,6 +81,7 @@ impl Around {
             paragraph: self.paragraph,
             mark: self.mark,
             in_mark: false,
+            of_run: true,
             run: self.run || hidden,
             loud: self.loud,
             text: false,
@@ -86,15 +91,17 @@ impl Around {
     fn in_other(self, elem: &Elem) -> Around
         ensures { result ≡ in_other self (tag_of elem.now) }
     {
+        let properties = is_word(elem, Word::RPr);
         let in_mark = if is_word(elem, Word::PPr) {
             self.mark
         } else {
-            is_word(elem, Word::RPr) && self.in_mark
+            properties && self.in_mark
         };
         Around {
             paragraph: self.paragraph,
             mark: self.mark,
             in_mark,
+            of_run: properties && self.of_run,
             run: self.run,
             loud: self.loud && !is_quiet(elem),
             text: holds_text(elem),
@@ -120,6 +127,7 @@ impl Around {
             paragraph: self.paragraph,
             mark: self.mark,
             in_mark: properties && self.in_mark,
+            of_run: properties && self.of_run,
             run: self.run,
             loud: self.loud && !properties,
             text: local == b"t".as_slice(),

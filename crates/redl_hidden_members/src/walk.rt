@@ -67,7 +67,7 @@ fn walk_elem(
     Ok(())
 }
 
-// Walks over a row, a cell, a table or a paragraph. It isn't inlined, so that each depth takes little stack.
+// Walks over a row, a cell, a table, a run or a paragraph. It isn't inlined, so that each depth takes little stack.
 #[cycle(walk)]
 #[inline(never)]
 fn walk_owner(
@@ -79,7 +79,7 @@ fn walk_owner(
     requires { is_owner (tag_of elem.now) ≡ true }
     ensures { (properties : Nodes) → OnOk result (walk.new ≡ element_walked within.entry.styles.now within.entry.at properties (tag_of elem.now) (kids_of elem.now) walk.old) }
 {
-    let before = mem::replace(&mut walk.heard.any, false);
+    let before = mem::replace(&mut walk.heard.any, within.hides(elem));
     let waiting = mem::replace(&mut walk.waiting, Vec::new(alloc));
     let inside = within.inside(elem);
     walk_kids(alloc, inside, elem, walk)?;
@@ -98,7 +98,8 @@ fn walk_plain(within: Within<'_, '_>, plain: &Plain<'_>, walk: &mut Walk) -> Res
 fn is_owner(elem: &Elem) -> bool
     ensures { result ≡ is_owner (tag_of elem.now) }
 {
-    is_word(elem, Word::P)
+    is_word(elem, Word::R)
+        || is_word(elem, Word::P)
         || is_word(elem, Word::Tr)
         || is_word(elem, Word::Tc)
         || is_word(elem, Word::Tbl)

@@ -60,7 +60,7 @@ impl Walk {
             tell(elem.rev(), &mut self.hidden);
             return Ok(());
         }
-        if waits(elem.kind()) {
+        if waits(at, elem.kind()) {
             self.waiting.push(elem.rev())?;
         }
         Ok(())
@@ -76,7 +76,7 @@ impl Walk {
         self.heard.any = before || self.heard.any;
     }
 
-    /// The end of a row, a cell, a table or a paragraph, whose own end is hidden or not: what waited before it waits again.
+    /// The end of a row, a cell, a table, a run or a paragraph, whose own end is hidden or not: what waited before it waits again.
     pub(crate) fn end_owner(&mut self, end: bool, before: bool, waiting: Vec<u32>)
         ensures { (outer : Walked) → outer.any ≡ before → outer.waiting ≡ waiting.items → self.new ≡ owner_ended end outer self.old }
     {
@@ -123,14 +123,15 @@ fn is_found(at: Around, properties: &Elem, elem: &Elem) -> bool
     }
 }
 
-// Whether a member holds all of its row, cell, paragraph or table.
-fn waits(kind: Kind) -> bool
-    ensures { result ≡ waits kind }
+// Whether a member holds all of its row, cell, run, paragraph or table.
+fn waits(at: Around, kind: Kind) -> bool
+    ensures { result ≡ waits at kind }
 {
     match kind {
         Kind::Plain | Kind::Marker | Kind::Content(_) | Kind::Mark(_) => false,
         Kind::Row(_) | Kind::Cell(_) => true,
-        Kind::Change(Prop::Run) | Kind::Change(Prop::Sect) => false,
+        Kind::Change(Prop::Run) => at.of_run,
+        Kind::Change(Prop::Sect) => false,
         Kind::Change(_) => true,
     }
 }

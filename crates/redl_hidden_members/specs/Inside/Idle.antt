@@ -18,6 +18,7 @@ in_idle at local = record {
   paragraph = at.paragraph;
   mark = at.mark;
   in_mark = is "rPr" (of_w local) && at.in_mark;
+  of_run = is "rPr" (of_w local) && at.of_run;
   run = at.run;
   loud = at.loud && not (is "rPr" (of_w local));
   text = is "t" (of_w local);
