@@ -281,7 +281,7 @@ LEVEL = '<w:lvl w:ilvl="%d"><w:start w:val="%d"/><w:lvlText w:val="%%1."/></w:lv
 LIST = '<w:abstractNum w:abstractNumId="%d">%s</w:abstractNum>'
 NUM = '<w:num w:numId="%d"><w:abstractNumId w:val="%d"/></w:num>'
 NUM_PROPERTIES = '<w:pPr><w:numPr><w:ilvl w:val="%d"/><w:numId w:val="%d"/></w:numPr></w:pPr>'
-STYLE = '<w:style w:type="paragraph" w:styleId="S%d"><w:basedOn w:val="S%d"/>%s</w:style>'
+BASED_STYLE = '<w:style w:type="paragraph" w:styleId="S%d"><w:basedOn w:val="S%d"/>%s</w:style>'
 ONE_LIST = LIST % (0, LEVEL % (0, 1)) + NUM % (1, 0)
 
 
@@ -291,7 +291,7 @@ def each(of):
 
 def styled(num_at, base):
     """Styles of which each is based on the one that `base` gives; one of them has the num. Each paragraph has the last one."""
-    styles = each(lambda i: STYLE % (i, base(i), NUM_PROPERTIES % (0, 1) if i == num_at else ""))
+    styles = each(lambda i: BASED_STYLE % (i, base(i), NUM_PROPERTIES % (0, 1) if i == num_at else ""))
     return ONE_LIST, styles, lambda i: '<w:pPr><w:pStyle w:val="S%d"/></w:pPr>' % (NUMBERED - 1)
 
 
