@@ -24,14 +24,14 @@ use Rattle.redl_outcome.specs.Brought.{Brought}
 use Rattle.redl_reading.specs.Lists.{field_at}
 use Rattle.redl_terminal.specs.Masks.{hidden_length}
 use Rattle.redl_words.specs.Reading.Commands.{check_in, command_in, join_in, sample_in, say_in, settle_in, text_in, verb_in, view_in, write_in}
-use Rattle.redl_words.specs.Reading.Items.{gathered, locking_option, option_in, with_option, with_plain_journal, with_word}
+use Rattle.redl_words.specs.Reading.Items.{gathered, locking_option, option_in, with_lone, with_option, with_plain_journal, with_word}
 use Rattle.redl_words.specs.Reading.Locks.{lock_in}
 use Rattle.redl_worked.proofs.Functions.{every_reader}
 use Rattle.redl_worked.specs.Calls.{AreWorkedOut}
 use Rattle.redl_worked.specs.Functions.{functions}
 
 by_functions : (brought : Brought) → AreWorkedOut functions brought
-unfolding document_at stretch_in element_at element_step entered known with_attribute declared_in piece_at stretch_at stretch_step items_end item_at tag_at tail_at tail_step attributes_at attribute_at attribute_in ends_tag end_tag_at equated_at is_value is_value_byte opening_at quote_at quoted_at value_at name_at name_end name_step word_at behind_start char_at is_name_byte after_mark after_declaration declaration_at version_at setting_at comment_at instruction_at instruction_end is_space is_name_start is_name_character is_plain_byte may_start may_follow are_distinct named_at number_at reference_at is_version attributes_of field_at is_known is_xmlns is_xml_prefix is_xml_namespace may_declare space_named is_character is_utf8 chars encode digits encode_with decode_pairs journal_in head_at title_at digest_at digest_in count_at entries_in entries_step entry_at entry_in rank_at word_in number_in is_reviewer is_visible check_in command_in join_in sample_in say_in settle_in text_in verb_in view_in write_in gathered locking_option option_in with_option with_plain_journal with_word lock_in hidden_length first_words schedule rounds compress hash_after digest_bytes sha256
+unfolding document_at stretch_in element_at element_step entered known with_attribute declared_in piece_at stretch_at stretch_step items_end item_at tag_at tail_at tail_step attributes_at attribute_at attribute_in ends_tag end_tag_at equated_at is_value is_value_byte opening_at quote_at quoted_at value_at name_at name_end name_step word_at behind_start char_at is_name_byte after_mark after_declaration declaration_at version_at setting_at comment_at instruction_at instruction_end is_space is_name_start is_name_character is_plain_byte may_start may_follow are_distinct named_at number_at reference_at is_version attributes_of field_at is_known is_xmlns is_xml_prefix is_xml_namespace may_declare space_named is_character is_utf8 chars encode digits encode_with decode_pairs journal_in head_at title_at digest_at digest_in count_at entries_in entries_step entry_at entry_in rank_at word_in number_in is_reviewer is_visible check_in command_in join_in sample_in say_in settle_in text_in verb_in view_in write_in gathered locking_option option_in with_lone with_option with_plain_journal with_word lock_in hidden_length first_words schedule rounds compress hash_after digest_bytes sha256
 by_functions brought = record {
   accepted = refl;
   rejected = refl;
