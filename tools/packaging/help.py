@@ -90,7 +90,7 @@ class Help:
     def listed_after(self, name):
         """The words that a line such as "KIND is ins, del or move" lists."""
         text = re.search(r"^%s is ([a-z, \n-]+)" % name, "\n\n".join("\n".join(block) for block in self.blocks), re.M)
-        return re.findall(r"(?!or\b)[a-z]+(?:-[a-z]+)*", text.group(1)) if text else []
+        return re.findall(r"\b(?!or\b)[a-z]+(?:-[a-z]+)*", text.group(1)) if text else []
 
     def kinds(self):
         return self.listed_after("KIND")
