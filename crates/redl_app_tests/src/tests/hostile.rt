@@ -222,7 +222,7 @@ fn each_put_fails_in_turn(rt: HostRuntime) -> Result<(), Fail> {
         ("decide P Dee --journal K --withdraw kind:ins", 1_928),
         ("list P", 5_500),
         ("text P", 6_100),
-        ("page P J", 26_765),
+        ("page P J", 28_357),
     ] {
         // Bytes go out 4,096 at a time; past the last put the call succeeds.
         let puts = size.div_ceil(4096);
