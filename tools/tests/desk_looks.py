@@ -207,13 +207,20 @@ def laid_on_paper(driven):
     same("and all is gone after it", after, None)
 
 
+def shows_pictures(driven):
+    """The desk's policy lets the pictures of the page in its frame be shown."""
+    it = contract(driven)
+    there = "return page.document.querySelector('main .picture img')?.naturalWidth ?? 0"
+    wait(lambda: it.in_page(there) > 0)
+    same("a picture is shown", it.in_page(there), 120)
+
+
 def pictured(driven, file):
     """The picture of the desk for README."""
     it = contract(driven)
     driven.look(1120, 760)
     it.name("Eve Stone")
-    for number in (2, 3):
-        it.decide(number, "accept")
+    it.in_page("page.document.querySelector('#edit-2 button[value=accept]').click()")
     it.run("document.getElementById('dismiss').click()")
     it.in_page("page.document.querySelector('main').scrollTop = 0")
     time.sleep(0.5)
@@ -230,4 +237,4 @@ def papers_picture(driven):
     pictures.is_of_now(driven, "desk.png", made)
 
 
-CASES = [looks, sizes, enlarged, by_keys, round_by_keys, for_readers, printed, laid_on_paper, papers_picture]
+CASES = [looks, sizes, enlarged, by_keys, round_by_keys, for_readers, printed, laid_on_paper, shows_pictures, papers_picture]

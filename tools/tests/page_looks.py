@@ -297,11 +297,9 @@ def plain_and_hidden(driven):
 def pictured(driven, file):
     """The picture of a page for the manual."""
     driven.look(1120, 700)
-    seen = Seen(driven, page_of("contract.xml", REVIEWERS))
+    seen = Seen(driven, page_of("contract.xml", REVIEWERS), has_edits=True)
     seen.name("Eve Stone")
-    driven.keys("ja")
-    seen.press(2, "accept")
-    driven.keys("ja")
+    driven.keys("jaaja")
     seen.run("document.querySelector('main').scrollTop = 0; document.querySelector('aside > ol').scrollTop = 105")
     time.sleep(0.3)
     driven.picture(file)
