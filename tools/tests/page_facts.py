@@ -21,6 +21,7 @@ def made(driven, name, whole):
     with open(file, "w", newline="", encoding="utf-8") as out:
         out.write(whole)
     page = page_of(file)
+    told("there is a page of " + name, page != b"")
     if IS_OWN:
         told("both writers make one page of " + name, page == second_page(file))
     return page
@@ -223,7 +224,7 @@ WHO = 'w:author="Ann &lt;b&gt; Gray" w:date="2026-11-03T14:30:00Z"'
 
 
 def remark(number, text):
-    return '<w:comment w:id="%d" %s><w:p w14:paraId="0000000%d" xmlns:w14="w14">%s</w:p></w:comment>' % (number, WHO, number, TEXT % text)
+    return '<w:comment w:id="%d" %s><w:p w14:paraId="0000000%d">%s</w:p></w:comment>' % (number, WHO, number, TEXT % text)
 
 
 def state(number, done=0, answers=None):
@@ -255,7 +256,7 @@ def commented_package():
     )
     notes = "".join(remark(*it) for it in [(1, "Is <b>this</b> right?".replace("<", "&lt;")), (2, "Yes."), (3, "A point."), (4, "A range."), (5, "Nowhere.")])
     states = "<w15:commentsEx %s>%s</w15:commentsEx>" % (EXTENDED, state(1) + state(2, answers=1) + state(3, done=1))
-    whole = in_package("".join(body), [("/word/comments.xml", "comments", notes)])
+    whole = in_package("".join(body), [("/word/comments.xml", "comments", notes)]).replace("<w:comments ", '<w:comments xmlns:w14="w14" ')
     return with_parts(whole, xml_part("/word/commentsExtended.xml", states), relations(("comments", "comments.xml"), ("commentsExtended", "commentsExtended.xml")))
 
 
