@@ -134,7 +134,8 @@ def round_by_keys(driven):
     told("Tab comes to the page of the document", tabbed_to(it, "page", forth))
     for key in "jar":
         driven.keys(key)
-    same("whose keys decide", [words.split(" ")[1] for words in it.decisions()], ["accept", "reject"])
+    # 1 is accepted, and then the edit of 2 and 3 is rejected.
+    same("whose keys decide", [words.split(" ")[1] for words in it.decisions()], ["accept", "reject", "reject"])
     told("Shift and Tab lead back to the steps", tabbed_to(it, "tab-", back))
     driven.keys(END)
     it.after()
